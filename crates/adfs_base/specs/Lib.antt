@@ -1,0 +1,5 @@
+pub mod Bytes
+pub mod Counts
+pub mod Files
+pub mod MemSink
+pub mod MemStore
