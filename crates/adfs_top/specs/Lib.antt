@@ -1,0 +1,10 @@
+pub mod Answer
+pub mod Assignments
+pub mod Causes
+pub mod Order
+pub mod Outcome
+pub mod Query
+pub mod Rows
+pub mod StatusLine
+pub mod Text
+pub mod Words

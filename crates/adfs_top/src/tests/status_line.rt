@@ -1,0 +1,31 @@
+// Each status's line for a user.
+use crate::Status;
+use std::test::Fail;
+
+#[test]
+fn each_status_has_its_line(rt: HostRuntime) -> Result<(), Fail> {
+    for (status, number, line) in [
+        (Status::Done, 0, ""),
+        (
+            Status::Usage { word: 2 },
+            2,
+            "adfs: word 2 is outside the form\n",
+        ),
+        (
+            Status::ReadFault { file: 1 },
+            4,
+            "adfs: file 1 read fault\n",
+        ),
+        (Status::Missing { file: 257 }, 5, "adfs: file 257 missing\n"),
+        (Status::WriteFault, 6, "adfs: write fault\n"),
+        (Status::NoMemory, 7, "adfs: no memory\n"),
+        (Status::NotBuilt { what: 257 }, 10, "adfs: not built 257\n"),
+    ] {
+        let mut out = b"before".as_slice().to_vec(rt.alloc())?;
+        status.put_line(rt.alloc(), &mut out)?;
+        assert_eq!(rt; status.number(), number);
+        assert_eq!(rt; &out[..6.min(out.len())], b"before".as_slice());
+        assert_eq!(rt; &out[6.min(out.len())..], line.as_bytes());
+    }
+    Ok(())
+}

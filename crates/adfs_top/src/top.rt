@@ -1,0 +1,129 @@
+ghost use Rattle.std.specs.Prelude.{◌≡◌, ◌≤◌, ◌↔◌, ℕ, IfOk, IfErr, IfSome, Err, map};
+ghost use Rattle.std.specs.String.{string_bytes};
+ghost use Rattle.adfs_base.specs.Counts.{Rose};
+ghost use Rattle.adfs_base.specs.Files.{file_of};
+ghost use Rattle.graph_tables.specs.Loading.{graph_from};
+ghost use Rattle.adfs_top.specs.Answer.{answer_of};
+ghost use Rattle.adfs_top.specs.Causes.{IsOfFiles, PartGives, Puts, PutsNothing, StoreCause};
+ghost use Rattle.adfs_top.specs.Outcome.{is_query, outcome, query_in, status_of_fault, text_of_files, with_status};
+ghost use Rattle.adfs_top.specs.Query.{first_query};
+ghost use Rattle.adfs_top.specs.Text.{reply_text};
+ghost use Rattle.adfs_top.specs.Words.{options_of};
+
+use crate::Status;
+use crate::answers::{reply, rows};
+use crate::words::options;
+use adfs_base::{Loaded, NoMemory, Put, Sink, Store};
+use graph_tables::{Graph, TableFault, TableKind, load_graph};
+use pgql_syntax::first_form;
+use std::alloc::Global;
+
+// The status of a table fault.
+fn status_of(fault: TableFault) -> Status
+    ensures { result ≡ status_of_fault fault }
+{
+    let file = fault.file;
+    match fault.kind {
+        TableKind::Missing => Status::Missing { file },
+        TableKind::ReadFault => Status::ReadFault { file },
+        TableKind::NoMemory => Status::NoMemory,
+        TableKind::NotBuilt => Status::NotBuilt { what: file },
+    }
+}
+
+fn load_tables<S: Store>(alloc: Global, store: &mut S, manifest: &str) -> Result<Graph, Status>
+    ensures kept { S.files store.new ≡ S.files store.old }
+    ensures gives { IfSome (S.files store.old) (λ files. PartGives (λ g. g) result (with_status (graph_from files manifest.now))) }
+    ensures faults { S.faults store.old ≤ S.faults store.new }
+    ensures misses { S.misses store.old ≤ S.misses store.new }
+    ensures cause { IfErr result (λ status. StoreCause status (S.files store.old) (S.faults store.old) (S.faults store.new) (S.misses store.old) (S.misses store.new)) }
+    ensures status { IfErr result IsOfFiles }
+{
+    match load_graph(alloc, store, manifest) {
+        Ok(graph) => Ok(graph),
+        Err(fault) => Err(status_of(fault)),
+    }
+}
+
+// Whether the bytes of a query file hold the one query.
+fn is_query(text: &[u8]) -> bool
+    ensures { result ≡ is_query text.now }
+{
+    text.len() <= 1_048_576 && first_form(text)
+}
+
+fn load_query<S: Store>(alloc: Global, store: &mut S, queries: &str) -> Result<Vec<u8>, Status>
+    ensures kept { S.files store.new ≡ S.files store.old }
+    ensures gives { IfSome (S.files store.old) (λ files. PartGives (λ v. v.items) result (query_in (file_of queries.now files))) }
+    ensures faults { S.faults store.old ≤ S.faults store.new }
+    ensures misses { S.misses store.old ≤ S.misses store.new }
+    ensures cause { IfErr result (λ status. StoreCause status (S.files store.old) (S.faults store.old) (S.faults store.new) (S.misses store.old) (S.misses store.new)) }
+    ensures status { IfErr result IsOfFiles }
+{
+    let mut text = Vec::new(alloc);
+    match store.load(queries, 1_048_576, &mut text) {
+        Loaded::Whole if is_query(&text) => Ok(text),
+        Loaded::Whole => Err(Status::NotBuilt { what: 257 }),
+        Loaded::Missing => Err(Status::Missing { file: 257 }),
+        Loaded::Failed => Err(Status::ReadFault { file: 257 }),
+        Loaded::NoMemory => Err(Status::NoMemory),
+    }
+}
+
+fn text_of(alloc: Global, graph: &Graph) -> Result<String, NoMemory>
+    ensures { IfOk result (λ text. string_bytes text ≡ reply_text (answer_of graph.now first_query)) }
+{
+    let rows = rows(alloc, graph)?;
+    reply(alloc, &rows)
+}
+
+fn run_text<S: Store>(
+    alloc: Global,
+    store: &mut S,
+    manifest: &str,
+    queries: &str,
+) -> Result<String, Status>
+    ensures gives { IfSome (S.files store.old) (λ files. PartGives string_bytes result (text_of_files files (manifest.now, queries.now))) }
+    ensures faults { S.faults store.old ≤ S.faults store.new }
+    ensures misses { S.misses store.old ≤ S.misses store.new }
+    ensures cause { IfErr result (λ status. StoreCause status (S.files store.old) (S.faults store.old) (S.faults store.new) (S.misses store.old) (S.misses store.new)) }
+    ensures status { IfErr result IsOfFiles }
+{
+    let graph = load_tables(alloc, store, manifest)?;
+    load_query(alloc, store, queries)?;
+    match text_of(alloc, &graph) {
+        Ok(text) => Ok(text),
+        Err(_) => Err(Status::NoMemory),
+    }
+}
+
+/// Runs the words, which are those after the program's name, on the files of a store, and puts the reply.
+///
+/// The work goes in this order: the words, the manifest, the tables, the query file, the answer, the one put.
+/// The status is that of the first step that doesn't go well. Nothing was put unless the run came to the put.
+pub fn adfs_run_serial<S: Store, O: Sink>(
+    alloc: Global,
+    words: &[String],
+    store: &mut S,
+    out: &mut O,
+) -> Status
+    // Where the files are told, the status and what was put are those of the run's definition.
+    ensures puts { IfSome (S.files store.old) (λ files. Puts result (outcome (map string_bytes words.now) files) (O.held out.old) (O.held out.new)) }
+    // Whatever the store tells.
+    ensures quiet { PutsNothing result (O.held out.old) (O.held out.new) }
+    ensures usage { (word : ℕ) → result ≡ Status.Usage word ↔ options_of (map string_bytes words.now) ≡ Err word }
+    // Faults come only where they were counted in this call.
+    ensures store { StoreCause result (S.files store.old) (S.faults store.old) (S.faults store.new) (S.misses store.old) (S.misses store.new) }
+    ensures write { result ≡ Status.WriteFault → Rose (O.faults out.old) (O.faults out.new) }
+{
+    match options(words) {
+        Err(word) => Status::Usage { word },
+        Ok((manifest, queries)) => match run_text(alloc, store, manifest, queries) {
+            Err(status) => status,
+            Ok(text) => match out.put(text.as_bytes()) {
+                Put::All => Status::Done,
+                Put::Failed => Status::WriteFault,
+            },
+        },
+    }
+}
