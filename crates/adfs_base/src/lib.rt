@@ -1,4 +1,4 @@
-//! What every crate of adfs shares: names, values, and the outside as the program is handed it.
+//! What every crate of adfs shares: names, values, limits, and the outside as the program is handed it.
 //!
 //! The outside is two traits. A `Store` gives files by their names, and a `Sink` takes bytes. Neither is
 //! trusted: a store may lack a name, and either may fail. What a contract says of them goes by three
@@ -10,16 +10,20 @@
 //! Those over real files and streams tell nothing but their counts, and stand in the program's own crate.
 #![tactic(auto)]
 
+mod limits;
 mod mem_sink;
 mod mem_store;
 mod name;
+mod part_word;
 mod sink;
 mod store;
 mod value;
 
+pub use limits::{CONTEXT_WORDS, EDGE_VARIABLES, MOST_STAGES, VERTEX_VARIABLES};
 pub use mem_sink::MemSink;
 pub use mem_store::MemStore;
 pub use name::{Name, NoMemory};
+pub use part_word::PartWord;
 pub use sink::{Put, Sink};
 pub use store::{Loaded, Store};
 pub use value::{Kind, Value};
