@@ -1,23 +1,10 @@
--- Lists that are in order already.
+-- Assignments ascend, and so does what is filtered of them.
 use Rattle.std.proofs.Common.{◌≡◌, ℕ, zero, suc, ◌+◌, ◌<◌, ◌≤◌, Bool, true, false, cond, List, [], ◌∷◌, ◌++◌, map, refl, ap, arith, ◌∙◌}
 use Rattle.std.specs.List.{AllByRecursion, filter, flat_map, range_with_len}
 use Rattle.std.proofs.lemmas.Grind.{common_steps}
 use Rattle.adfs_top.specs.Assignments.{assignments}
-use Rattle.adfs_top.specs.Order.{placed, in_order, numbers_before}
-
--- nothing comes before an earlier item
-abbrev pub Ascends : {X : Type 0} → (X → X → Bool) → List X → Type 0
-Ascends before [] = Unit {0}
-Ascends before (x ∷ xs) = AllByRecursion (λ y. before y x ≡ false) xs × Ascends before xs
-
-placed-first : {X : Type 0} (before : X → X → Bool) (x : X) (xs : List X) → AllByRecursion (λ y. before y x ≡ false) xs → placed before x xs ≡ x ∷ xs
-placed-first before x [] behind = refl
-placed-first before x (y ∷ ys) behind = rw behind.0 refl
-
-pub in_order-ascending : {X : Type 0} (before : X → X → Bool) (xs : List X) → Ascends before xs → in_order before xs ≡ xs
-in_order-ascending before [] ascends = refl
-in_order-ascending before (x ∷ xs) ascends =
-    ap (placed before x) (in_order-ascending before xs ascends.1) ∙ placed-first before x xs ascends.0
+use Rattle.sorted_lists.proofs.Ascending.{All-same, Ascends}
+use Rattle.adfs_top.specs.Order.{numbers_before}
 
 -- ---- what keeps a fact of all items
 
@@ -37,10 +24,6 @@ All-append P (x ∷ xs) ys all others = (all.0, All-append P xs ys all.1 others)
 All-map : {X Y : Type 0} (P : Y → Type 0) (f : X → Y) (xs : List X) → AllByRecursion (λ x. P (f x)) xs → AllByRecursion P (map f xs)
 All-map P f [] all = tt
 All-map P f (x ∷ xs) all = (all.0, All-map P f xs all.1)
-
-All-same : {X : Type 0} (P Q : X → Type 0) (xs : List X) → ((x : X) → P x → Q x) → AllByRecursion P xs → AllByRecursion Q xs
-All-same P Q [] leads all = tt
-All-same P Q (x ∷ xs) leads all = (leads x all.0, All-same P Q xs leads all.1)
 
 -- ---- what keeps a list ascending
 

@@ -1,3 +1,4 @@
 pub mod Ascending
 pub mod Matches
 pub mod QueryFile
+pub mod Steps

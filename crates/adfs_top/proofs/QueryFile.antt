@@ -1,38 +1,51 @@
--- What is read of a query file, against the whole file.
-use Rattle.std.proofs.Common.{◌≡◌, ℕ, ◌+◌, ◌<◌, ◌≤◌, Bool, true, false, nat_le, ◌&&◌, List, length, take, Option, Some, None, Result, Ok, Err, IfSome, IsSomeAnd, arith, refl}
+-- What the front of a query file shows of the whole file.
+use Rattle.std.proofs.Common.{◌≡◌, ℕ, ◌+◌, ◌<◌, ◌≤◌, nat_lt, true, false, List, length, take, Option, Some, None, Ok, Err, IfSome, IsSomeAnd, arith, refl, sym, ap, ◌∙◌}
 use Rattle.std.proofs.lemmas.Grind.{common_steps}
 use Rattle.std.proofs.lemmas.List.{length-take, take_all}
 use Rattle.adfs_base.specs.Files.{Files, file_of, Reads}
 use Rattle.pgql_syntax.specs.FirstForm.{is_first_form}
-use Rattle.adfs_top.specs.Outcome.{is_query, query_in}
-use Rattle.adfs_top.specs.declared.status.Status.TheVariants.{NotBuilt}
+use Rattle.graph_tables.specs.declared.faults.Quantity.TheVariants as quantity
+use Rattle.adfs_top.specs.Outcome.{query_in}
+use Rattle.adfs_top.specs.declared.status.Status.TheVariants.{Limit, NotBuilt}
 
-front_passes : (p : List ℕ → Bool) (n : ℕ) (f : List ℕ) → (nat_le (length (take (n + 1) f)) n && p (take (n + 1) f)) ≡ true → take (n + 1) f ≡ f
-front_passes p n f h = grind (arith, common_steps, length-take (n + 1) f, take_all)
+-- a short front is the whole
+whole_read : (most : ℕ) (bytes file : List ℕ) → bytes ≡ take (most + 1) file → length bytes ≤ most → (file ≡ bytes) × (nat_lt most (length file) ≡ false)
+whole_read most bytes file front short = (grind (arith, common_steps, length-take (most + 1) file, take_all), grind (arith, common_steps, length-take (most + 1) file))
 
-front_fails : (p : List ℕ → Bool) (n : ℕ) (f : List ℕ) → (nat_le (length (take (n + 1) f)) n && p (take (n + 1) f)) ≡ false → (nat_le (length f) n && p f) ≡ false
-front_fails p n f h = grind (arith, common_steps, length-take (n + 1) f, take_all)
+long_read : (most : ℕ) (bytes file : List ℕ) → bytes ≡ take (most + 1) file → most < length bytes → nat_lt most (length file) ≡ true
+long_read most bytes file front long = grind (arith, common_steps, length-take (most + 1) file)
 
-front_is_query : (f : List ℕ) → is_query (take (1048576 + 1) f) ≡ true → take (1048576 + 1) f ≡ f
-front_is_query f h = front_passes is_first_form 1048576 f h
+found_in : (bytes : List ℕ) (found : Option (List ℕ)) → IsSomeAnd found (λ f. bytes ≡ take (268435456 + 1) f) → length bytes ≤ 268435456
+    → is_first_form bytes ≡ true → query_in found ≡ Ok bytes
+found_in bytes None front short known = absurd front
+found_in bytes (Some file) front short known =
+    let whole = whole_read 268435456 bytes file front short in
+    rw (whole.1, whole.0, known) refl
 
-front_is_none : (f : List ℕ) → is_query (take (1048576 + 1) f) ≡ false → is_query f ≡ false
-front_is_none f h = front_fails is_first_form 1048576 f h
+other_in : (bytes : List ℕ) (found : Option (List ℕ)) → IsSomeAnd found (λ f. bytes ≡ take (268435456 + 1) f) → length bytes ≤ 268435456
+    → is_first_form bytes ≡ false → query_in found ≡ Err (NotBuilt 257)
+other_in bytes None front short other = absurd front
+other_in bytes (Some file) front short other =
+    let whole = whole_read 268435456 bytes file front short in
+    rw (whole.1, whole.0, other) refl
 
-found_in : (bytes : List ℕ) (found : Option (List ℕ)) → IsSomeAnd found (λ f. bytes ≡ take (1048576 + 1) f) → is_query bytes ≡ true → query_in found ≡ Ok bytes
-found_in bytes None r h = absurd r
-found_in bytes (Some f) r h = grind (arith, front_is_query f)
+long_in : (bytes : List ℕ) (found : Option (List ℕ)) → IsSomeAnd found (λ f. bytes ≡ take (268435456 + 1) f) → 268435456 < length bytes
+    → query_in found ≡ Err (Limit quantity.FileBytes 268435456)
+long_in bytes None front long = absurd front
+long_in bytes (Some file) front long = rw (long_read 268435456 bytes file front long) refl
 
-none_in : (bytes : List ℕ) (found : Option (List ℕ)) → IsSomeAnd found (λ f. bytes ≡ take (1048576 + 1) f) → is_query bytes ≡ false → query_in found ≡ Err (NotBuilt 257)
-none_in bytes None r h = absurd r
-none_in bytes (Some f) r h = grind (arith, front_is_none f)
-
-pub query_found : (files : Option Files) (name bytes : List ℕ) → Reads files name 1048576 bytes → is_query bytes ≡ true
+-- the same where the files may be told
+pub query_found : (files : Option Files) (name bytes : List ℕ) → Reads files name 268435456 bytes → length bytes ≤ 268435456 → is_first_form bytes ≡ true
     → IfSome files (λ told. query_in (file_of name told) ≡ Ok bytes)
-query_found None name bytes r h = tt
-query_found (Some told) name bytes r h = found_in bytes (file_of name told) r h
+query_found None name bytes reads short known = tt
+query_found (Some told) name bytes reads short known = found_in bytes (file_of name told) reads short known
 
-pub query_refused : (files : Option Files) (name bytes : List ℕ) → Reads files name 1048576 bytes → is_query bytes ≡ false
+pub query_other : (files : Option Files) (name bytes : List ℕ) → Reads files name 268435456 bytes → length bytes ≤ 268435456 → is_first_form bytes ≡ false
     → IfSome files (λ told. query_in (file_of name told) ≡ Err (NotBuilt 257))
-query_refused None name bytes r h = tt
-query_refused (Some told) name bytes r h = none_in bytes (file_of name told) r h
+query_other None name bytes reads short other = tt
+query_other (Some told) name bytes reads short other = other_in bytes (file_of name told) reads short other
+
+pub query_long : (files : Option Files) (name bytes : List ℕ) → Reads files name 268435456 bytes → 268435456 < length bytes
+    → IfSome files (λ told. query_in (file_of name told) ≡ Err (Limit quantity.FileBytes 268435456))
+query_long None name bytes reads long = tt
+query_long (Some told) name bytes reads long = long_in bytes (file_of name told) reads long

@@ -2,10 +2,10 @@
 use Rattle.std.specs.Prelude.{ℕ, ℤ, pos, ◌==◌, ◌&&◌, ◌||◌, Bool, true, false, List, [], ◌∷◌, Option, Some, None, length, map, filter, slice_index, if◌then◌else◌}
 use Rattle.std.specs.List.{list_all, slice_get}
 use Rattle.std.specs.Option.{option_map_or}
-use Rattle.graph_tables.specs.Graph.{PropertyGraph}
-use Rattle.graph_tables.specs.declared.graph.Edge.{Edge}
+use Rattle.graph_tables.specs.Graph.{PropertyGraph, Edge}
 use Rattle.adfs_top.specs.Assignments.{assignments}
-use Rattle.adfs_top.specs.Order.{in_order, keys_before, keys_equal, numbers_before}
+use Rattle.sorted_lists.specs.Sorted.{in_order}
+use Rattle.adfs_top.specs.Order.{keys_before, keys_equal, numbers_before}
 use Rattle.adfs_top.specs.Query.{Query, Variable, EdgeJoin}
 
 -- how many elements a variable may stand for

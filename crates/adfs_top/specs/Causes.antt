@@ -3,55 +3,38 @@ use Rattle.std.specs.Prelude.{◌≡◌, ℕ, List, Option, Result, Ok, Err, Mat
 use Rattle.adfs_base.specs.Counts.{Rose}
 use Rattle.adfs_base.specs.Bytes.{took, TookFront}
 use Rattle.adfs_top.specs.declared.status.Status.{Status}
-use Rattle.adfs_top.specs.declared.status.Status.TheVariants.{Done, Usage, ReadFault, Missing, WriteFault, NoMemory, NotBuilt}
+use Rattle.adfs_top.specs.declared.status.Status.TheVariants.{Done, Usage, TableFault, ReadFault, Missing, WriteFault, NoMemory, Limit, NotBuilt}
 
 -- What is put by a run that comes to this outcome. A read fault and want of memory may come whatever the outcome is.
 abbrev pub Puts : Status → Result (List ℕ) Status → Option (List ℕ) → Option (List ℕ) → Type 0
 Puts Done outcome old new = (text : List ℕ) × (outcome ≡ Ok text) × (new ≡ took old text)
 Puts WriteFault outcome old new = (text : List ℕ) × (outcome ≡ Ok text) × TookFront old text new
-Puts (Usage word) outcome old new = (outcome ≡ Err (Usage word)) × (new ≡ old)
-Puts (Missing file) outcome old new = (outcome ≡ Err (Missing file)) × (new ≡ old)
-Puts (NotBuilt what) outcome old new = (outcome ≡ Err (NotBuilt what)) × (new ≡ old)
 Puts (ReadFault file) outcome old new = new ≡ old
 Puts NoMemory outcome old new = new ≡ old
+Puts status outcome old new = (outcome ≡ Err status) × (new ≡ old)
 
 -- Nothing was put, unless the run came to its writing.
 abbrev pub PutsNothing : Status → Option (List ℕ) → Option (List ℕ) → Type 0
 PutsNothing Done old new = Unit {0}
 PutsNothing WriteFault old new = Unit {0}
-PutsNothing (Usage word) old new = new ≡ old
-PutsNothing (ReadFault file) old new = new ≡ old
-PutsNothing (Missing file) old new = new ≡ old
-PutsNothing NoMemory old new = new ≡ old
-PutsNothing (NotBuilt what) old new = new ≡ old
+PutsNothing status old new = new ≡ old
 
 -- A read fault comes only where the store's faults rose; a missing file, where the files aren't told, only where its misses rose.
 abbrev pub StoreCause : {F : Type 0} → Status → Option F → ℕ → ℕ → ℕ → ℕ → Type 0
 StoreCause (ReadFault file) files faults faults_now misses misses_now = Rose faults faults_now
 StoreCause (Missing file) files faults faults_now misses misses_now = MatchOption files (Rose misses misses_now) (λ _. Unit {0})
-StoreCause Done files faults faults_now misses misses_now = Unit {0}
-StoreCause (Usage word) files faults faults_now misses misses_now = Unit {0}
-StoreCause WriteFault files faults faults_now misses misses_now = Unit {0}
-StoreCause NoMemory files faults faults_now misses misses_now = Unit {0}
-StoreCause (NotBuilt what) files faults faults_now misses misses_now = Unit {0}
+StoreCause status files faults faults_now misses misses_now = Unit {0}
 
 -- What a part of the run between the words and the writing gives, against its definition.
 abbrev pub PartGives : {X Y : Type 0} → (X → Y) → Result X Status → Result Y Status → Type 0
 PartGives view (Ok x) part = part ≡ Ok (view x)
 PartGives view (Err (ReadFault file)) part = Unit {0}
 PartGives view (Err NoMemory) part = Unit {0}
-PartGives view (Err (Missing file)) part = part ≡ Err (Missing file)
-PartGives view (Err (NotBuilt what)) part = part ≡ Err (NotBuilt what)
-PartGives view (Err (Usage word)) part = part ≡ Err (Usage word)
-PartGives view (Err Done) part = ⊥
-PartGives view (Err WriteFault) part = ⊥
+PartGives view (Err status) part = part ≡ Err status
 
 -- a status of the work between the words and the writing
 abbrev pub IsOfFiles : Status → Type 0
 IsOfFiles Done = ⊥
 IsOfFiles WriteFault = ⊥
 IsOfFiles (Usage word) = ⊥
-IsOfFiles (ReadFault file) = Unit {0}
-IsOfFiles (Missing file) = Unit {0}
-IsOfFiles NoMemory = Unit {0}
-IsOfFiles (NotBuilt what) = Unit {0}
+IsOfFiles status = Unit {0}

@@ -1,6 +1,7 @@
 pub mod Answer
 pub mod Assignments
 pub mod Causes
+pub mod Faults
 pub mod Order
 pub mod Outcome
 pub mod Query

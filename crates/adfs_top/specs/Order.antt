@@ -1,16 +1,6 @@
--- Lists in order.
-use Rattle.std.specs.Prelude.{ℕ, ℤ, ◌==◌, ◌&&◌, ◌||◌, nat_lt, int_lt, Bool, true, false, List, [], ◌∷◌, if◌then◌else◌}
+-- Which of two lists of numbers, or of keys, comes first.
+use Rattle.std.specs.Prelude.{ℕ, ℤ, ◌==◌, ◌&&◌, ◌||◌, nat_lt, int_lt, Bool, true, false, List, [], ◌∷◌}
 use Rattle.std.specs.Ordering.{int_eq}
-
--- the item in its place of a list in order: behind those that come before it
-abbrev pub placed : {X : Type 0} → (X → X → Bool) → X → List X → List X
-placed before x [] = x ∷ []
-placed before x (y ∷ ys) = if before y x then y ∷ placed before x ys else x ∷ y ∷ ys
-
--- the list in order
-abbrev pub in_order : {X : Type 0} → (X → X → Bool) → List X → List X
-in_order before [] = []
-in_order before (x ∷ xs) = placed before x (in_order before xs)
 
 -- the first place at which two lists differ decides
 abbrev pub numbers_before : List ℕ → List ℕ → Bool

@@ -20,7 +20,9 @@ fn add_row_of_edge(graph: &Graph, a: u32, e: u32, rows: &mut Vec<Row>) -> Result
 {
     let (_, _, source, target) = graph.edge(e);
     if source == a {
-        rows.push([graph.vertex(a).0, graph.vertex(target).0])?;
+        let (from, _) = graph.vertex(a);
+        let (to, _) = graph.vertex(target);
+        rows.push([from, to])?;
     }
     Ok(())
 }

@@ -1,8 +1,9 @@
 ghost use Rattle.std.specs.Prelude.{◌≡◌, ◌++◌, OnOk, OnErr, IfOk};
 ghost use Rattle.std.specs.String.{string_bytes};
-ghost use Rattle.adfs_top.specs.StatusLine.{status_number, status_line};
+ghost use Rattle.adfs_top.specs.StatusLine.{quantity_name, status_line, status_number};
 
 use adfs_base::NoMemory;
+use graph_tables::Quantity;
 use std::alloc::{AllocError, Global};
 
 /// How a run ended. Files are numbered: 0 the manifest, then the tables in its order from 1, and 257 the query
@@ -13,32 +14,72 @@ pub enum Status {
     Done,
     /// The words are outside the form, from the one at this place on. Places count from 0. It is the number of
     /// words where some are missing.
-    Usage { word: u32 },
+    Usage {
+        word: u32,
+    },
+    /// A file's bytes break the rules of manifests and tables. The row is the line of the manifest or the
+    /// record of the table, and both count from 1, like columns; a 0 stands for the whole file or record. The code
+    /// is 30 for the manifest, 31 for a header, 32 for a cell, 33 for a key that stands twice and 34 for an edge's end
+    /// that is no vertex. The cell is 20 to 25 for the code 32, and else 0.
+    TableFault {
+        file: u32,
+        row: u32,
+        column: u32,
+        code: u32,
+        cell: u32,
+    },
     /// The store failed at this file.
-    ReadFault { file: u32 },
+    ReadFault {
+        file: u32,
+    },
     /// The store has no such file.
-    Missing { file: u32 },
+    Missing {
+        file: u32,
+    },
     /// The sink failed. It took a front of the reply, which may be empty.
     WriteFault,
     /// Memory ran out, and nothing was put.
     NoMemory,
-    /// The file of this number is of a form that isn't answered yet.
-    NotBuilt { what: u32 },
+    /// This quantity of the input is above this number.
+    Limit {
+        quantity: Quantity,
+        number: u64,
+    },
+    /// The query file isn't the one that is answered so far.
+    NotBuilt {
+        what: u32,
+    },
+}
+
+fn quantity_name(quantity: Quantity) -> &'static str
+    ensures { result.now ≡ quantity_name quantity }
+{
+    match quantity {
+        Quantity::FileBytes => "FileBytes",
+        Quantity::TotalBytes => "TotalBytes",
+        Quantity::Tables => "Tables",
+        Quantity::Vertices => "Vertices",
+        Quantity::Edges => "Edges",
+        Quantity::Cells => "Cells",
+        Quantity::Queries => "Queries",
+    }
 }
 
 impl Status {
-    /// The number with which the program ends: 0 `Done`, 2 `Usage`, 4 `ReadFault`, 5 `Missing`, 6 `WriteFault`,
-    /// 7 `NoMemory`, 10 `NotBuilt`.
+    /// The number with which the program ends: 0 `Done`, 2 `Usage`, 3 `TableFault`, 4 `ReadFault`, 5 `Missing`,
+    /// 6 `WriteFault`, 7 `NoMemory`, 8 `Limit`, 10 `NotBuilt`.
     pub fn number(&self) -> u32
         ensures { result ≡ status_number self.now }
     {
         match self {
             Status::Done => 0,
             Status::Usage { .. } => 2,
+            Status::TableFault { .. } => 3,
             Status::ReadFault { .. } => 4,
             Status::Missing { .. } => 5,
             Status::WriteFault => 6,
             Status::NoMemory => 7,
+            Status::Limit { .. } => 8,
             Status::NotBuilt { .. } => 10,
         }
     }
@@ -50,10 +91,25 @@ impl Status {
         match self {
             Status::Done => Ok(String::new(alloc)),
             Status::Usage { word } => format!(in alloc; "adfs: word {word} is outside the form\n"),
+            Status::TableFault {
+                file,
+                row,
+                column,
+                code,
+                cell,
+            } => {
+                format!(in alloc;
+                    "adfs: file {file} record {row} column {column} refused {code} cell {cell}\n"
+                )
+            }
             Status::ReadFault { file } => format!(in alloc; "adfs: file {file} read fault\n"),
             Status::Missing { file } => format!(in alloc; "adfs: file {file} missing\n"),
             Status::WriteFault => String::from_str(alloc, "adfs: write fault\n"),
             Status::NoMemory => String::from_str(alloc, "adfs: no memory\n"),
+            Status::Limit { quantity, number } => {
+                let name = quantity_name(*quantity);
+                format!(in alloc; "adfs: limit {name} {number}\n")
+            }
             Status::NotBuilt { what } => format!(in alloc; "adfs: not built {what}\n"),
         }
     }

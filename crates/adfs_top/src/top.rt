@@ -1,39 +1,28 @@
-ghost use Rattle.std.specs.Prelude.{◌≡◌, ◌≤◌, ◌↔◌, ℕ, IfOk, IfErr, IfSome, Err, map};
+ghost use Rattle.std.specs.Prelude.{◌≡◌, ◌≤◌, ◌↔◌, ℕ, IfOk, IfErr, IfSome, Ok, Err, map};
 ghost use Rattle.std.specs.String.{string_bytes};
 ghost use Rattle.adfs_base.specs.Counts.{Rose};
 ghost use Rattle.adfs_base.specs.Files.{file_of};
-ghost use Rattle.graph_tables.specs.Loading.{graph_from};
+ghost use Rattle.graph_tables.specs.Loaded.{loaded};
 ghost use Rattle.adfs_top.specs.Answer.{answer_of};
 ghost use Rattle.adfs_top.specs.Causes.{IsOfFiles, PartGives, Puts, PutsNothing, StoreCause};
-ghost use Rattle.adfs_top.specs.Outcome.{is_query, outcome, query_in, status_of_fault, text_of_files, with_status};
+ghost use Rattle.adfs_top.specs.Faults.{with_status};
+ghost use Rattle.adfs_top.specs.Outcome.{◌>>~◌, outcome, query_in, text_of_files};
 ghost use Rattle.adfs_top.specs.Query.{first_query};
 ghost use Rattle.adfs_top.specs.Text.{reply_text};
 ghost use Rattle.adfs_top.specs.Words.{options_of};
 
 use crate::Status;
 use crate::answers::{reply, rows};
+use crate::faults::{passed, status_of};
 use crate::words::options;
 use adfs_base::{Loaded, NoMemory, Put, Sink, Store};
-use graph_tables::{Graph, TableFault, TableKind, load_graph};
+use graph_tables::{Graph, Quantity, load_graph};
 use pgql_syntax::first_form;
 use std::alloc::Global;
 
-// The status of a table fault.
-fn status_of(fault: TableFault) -> Status
-    ensures { result ≡ status_of_fault fault }
-{
-    let file = fault.file;
-    match fault.kind {
-        TableKind::Missing => Status::Missing { file },
-        TableKind::ReadFault => Status::ReadFault { file },
-        TableKind::NoMemory => Status::NoMemory,
-        TableKind::NotBuilt => Status::NotBuilt { what: file },
-    }
-}
-
 fn load_tables<S: Store>(alloc: Global, store: &mut S, manifest: &str) -> Result<Graph, Status>
     ensures kept { S.files store.new ≡ S.files store.old }
-    ensures gives { IfSome (S.files store.old) (λ files. PartGives (λ g. g) result (with_status (graph_from files manifest.now))) }
+    ensures gives { IfSome (S.files store.old) (λ files. PartGives (λ g. g) result (with_status (loaded files manifest.now))) }
     ensures faults { S.faults store.old ≤ S.faults store.new }
     ensures misses { S.misses store.old ≤ S.misses store.new }
     ensures cause { IfErr result (λ status. StoreCause status (S.files store.old) (S.faults store.old) (S.faults store.new) (S.misses store.old) (S.misses store.new)) }
@@ -45,12 +34,8 @@ fn load_tables<S: Store>(alloc: Global, store: &mut S, manifest: &str) -> Result
     }
 }
 
-// Whether the bytes of a query file hold the one query.
-fn is_query(text: &[u8]) -> bool
-    ensures { result ≡ is_query text.now }
-{
-    text.len() <= 1_048_576 && first_form(text)
-}
+// The bytes that a query file may have.
+const MOST_BYTES: u64 = 268_435_456;
 
 fn load_query<S: Store>(alloc: Global, store: &mut S, queries: &str) -> Result<Vec<u8>, Status>
     ensures kept { S.files store.new ≡ S.files store.old }
@@ -61,8 +46,9 @@ fn load_query<S: Store>(alloc: Global, store: &mut S, queries: &str) -> Result<V
     ensures status { IfErr result IsOfFiles }
 {
     let mut text = Vec::new(alloc);
-    match store.load(queries, 1_048_576, &mut text) {
-        Loaded::Whole if is_query(&text) => Ok(text),
+    match store.load(queries, MOST_BYTES, &mut text) {
+        Loaded::Whole if MOST_BYTES < text.len() as u64 => Err(passed(Quantity::FileBytes)),
+        Loaded::Whole if first_form(&text) => Ok(text),
         Loaded::Whole => Err(Status::NotBuilt { what: 257 }),
         Loaded::Missing => Err(Status::Missing { file: 257 }),
         Loaded::Failed => Err(Status::ReadFault { file: 257 }),
@@ -75,6 +61,26 @@ fn text_of(alloc: Global, graph: &Graph) -> Result<String, NoMemory>
 {
     let rows = rows(alloc, graph)?;
     reply(alloc, &rows)
+}
+
+// The text of the reply to the query file, over a graph.
+fn answer_text<S: Store>(
+    alloc: Global,
+    store: &mut S,
+    graph: &Graph,
+    queries: &str,
+) -> Result<String, Status>
+    ensures gives { IfSome (S.files store.old) (λ files. PartGives string_bytes result (query_in (file_of queries.now files) >>~ λ query. Ok (reply_text (answer_of graph.now first_query)))) }
+    ensures faults { S.faults store.old ≤ S.faults store.new }
+    ensures misses { S.misses store.old ≤ S.misses store.new }
+    ensures cause { IfErr result (λ status. StoreCause status (S.files store.old) (S.faults store.old) (S.faults store.new) (S.misses store.old) (S.misses store.new)) }
+    ensures status { IfErr result IsOfFiles }
+{
+    load_query(alloc, store, queries)?;
+    match text_of(alloc, graph) {
+        Ok(text) => Ok(text),
+        Err(_) => Err(Status::NoMemory),
+    }
 }
 
 fn run_text<S: Store>(
@@ -90,11 +96,7 @@ fn run_text<S: Store>(
     ensures status { IfErr result IsOfFiles }
 {
     let graph = load_tables(alloc, store, manifest)?;
-    load_query(alloc, store, queries)?;
-    match text_of(alloc, &graph) {
-        Ok(text) => Ok(text),
-        Err(_) => Err(Status::NoMemory),
-    }
+    answer_text(alloc, store, &graph, queries)
 }
 
 /// Runs the words, which are those after the program's name, on the files of a store, and puts the reply.

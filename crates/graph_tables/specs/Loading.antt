@@ -1,76 +1,73 @@
--- A graph from the files of a store, or the fault.
-use Rattle.std.specs.Prelude.{◌≡◌, ℕ, ℤ, ◌<◌, ◌≤◌, nat_le, length, List, map, Option, Some, None, Result, Ok, Err, IfErr, MatchOption, if◌then◌else◌}
-use Rattle.adfs_base.specs.Counts.{Rose}
-use Rattle.adfs_base.specs.Files.{Files, file_of}
-use Rattle.graph_tables.specs.Graph.{PropertyGraph}
-use Rattle.graph_tables.specs.Manifest.{manifest_of}
-use Rattle.graph_tables.specs.Tables.{vertex_keys, edges_of}
-use Rattle.graph_tables.specs.declared.reading.Unread.{Unread}
-use Rattle.graph_tables.specs.declared.reading.Unread.TheVariants.{Form}
-use Rattle.graph_tables.specs.declared.reading.Unread.TheVariants as unread
-use Rattle.graph_tables.specs.declared.graph.Edge.{Edge}
-use Rattle.graph_tables.specs.declared.graph.Vertex.{Vertex}
-use Rattle.graph_tables.specs.declared.load.TableKind.{TableKind}
-use Rattle.graph_tables.specs.declared.load.TableKind.TheVariants.{Missing, ReadFault, NoMemory, NotBuilt}
-use Rattle.graph_tables.specs.declared.load.TableFault.{TableFault}
+-- A graph that is being loaded.
+use Rattle.std.specs.Prelude.{◌≡◌, ℕ, ◌+◌, ◌<◌, ◌≤◌, ◌^◌, List, [], ◌∷◌, length}
+use Rattle.std.specs.List.{AllByRecursion}
+use Rattle.element_store.specs.Elements.{Element, Filled}
+use Rattle.graph_tables.specs.Graph.{Edge, EndsIn, IsWhole, PropertyGraph, cells_made}
+use Rattle.graph_tables.specs.Rows.{most_cells, most_edges, most_vertices}
+use Rattle.graph_tables.specs.declared.loading.Ends.{Ends}
+use Rattle.graph_tables.specs.declared.loading.Loading.{Loading}
+use Rattle.graph_tables.specs.declared.manifest.ElementKind.{ElementKind}
+use Rattle.graph_tables.specs.declared.manifest.ElementKind.TheVariants as element
 
-infixl 10 ◌>>>◌
-abbrev pub ◌>>>◌ : {A B : Type 0} → Result A TableFault → (A → Result B TableFault) → Result B TableFault
-(Ok x) >>> f = f x
-(Err e) >>> f = Err e
+-- edges, from what they have besides their ends and the ends beside them
+abbrev pub edges_with : List Element → List Ends → List Edge
+edges_with [] ends = []
+edges_with (e ∷ es) [] = []
+edges_with (e ∷ es) (ends ∷ rest) =
+    record { key = e.key; label = e.label; source = ends.source; target = ends.target; values = e.values } ∷ edges_with es rest
 
-abbrev pub fault_of : ℕ → TableKind → TableFault
-fault_of file kind = record { file = file; row = 0; column = 0; kind = kind }
+-- the graph so far
+abbrev pub graph_of : Loading → PropertyGraph
+graph_of l = record {
+  vertices = l.vertices.elements;
+  edges = edges_with l.edges.elements l.ends.items;
+  texts = l.texts;
+  vertex_properties = l.vertex_properties;
+  edge_properties = l.edge_properties;
+}
 
--- the bytes of a file of at most this length
-abbrev pub bounded : ℕ → ℕ → Option (List ℕ) → Result (List ℕ) TableFault
-bounded file most None = Err (fault_of file Missing)
-bounded file most (Some bytes) = if nat_le (length bytes) most then Ok bytes else Err (fault_of file NotBuilt)
+-- the elements of a kind, and what the table of them that grows says of its rows
+abbrev pub filled_of : ElementKind → Loading → Filled
+filled_of element.Vertex l = l.vertices
+filled_of element.Edge l = l.edges
 
--- what a text is read as
-abbrev pub formed : {A : Type 0} → ℕ → Option A → Result A TableFault
-formed file None = Err (fault_of file NotBuilt)
-formed file (Some x) = Ok x
+-- how many tables were begun
+abbrev pub tables_in : Loading → ℕ
+tables_in l = l.vertices.tables + l.edges.tables
 
-abbrev pub vertex_of_key : ℤ → Vertex
-vertex_of_key key = record { key = key; label = 0 }
+-- The label of the table that grows is one of the texts.
+abbrev pub LabelIn : List (List ℕ) → Filled → Type 0
+LabelIn texts f = 0 < f.tables → f.label < length texts
 
--- what a reader gave for a file
-abbrev pub faulted : {A : Type 0} → ℕ → Result A Unread → Result A TableFault
-faulted file (Ok x) = Ok x
-faulted file (Err Form) = Err (fault_of file NotBuilt)
-faulted file (Err unread.NoMemory) = Err (fault_of file NoMemory)
+-- The graph so far is whole and keeps within the limits, and its texts are no more than its cells and tables.
+pub record IsSound (l : Loading) : Type 0 where
+  pub whole : IsWhole (graph_of l)
+  pub ends_beside : length l.ends.items ≡ length l.edges.elements
+  pub vertex_label : LabelIn l.texts l.vertices
+  pub edge_label : LabelIn l.texts l.edges
+  pub few_vertices : length l.vertices.elements ≤ most_vertices
+  pub few_edges : length l.edges.elements ≤ most_edges
+  pub few_cells : cells_made (graph_of l) ≤ most_cells
+  pub few_texts : length l.texts ≤ cells_made (graph_of l) + tables_in l
 
-abbrev pub key_list : Files → List ℕ → Result (List ℤ) TableFault
-key_list files name = bounded 1 1048576 (file_of name files) >>> λ text. formed 1 (vertex_keys text)
+-- Tables and properties are as they were.
+pub record KeepsTables (old new : Loading) : Type 0 where
+  pub vertex_tables : new.vertices.tables ≡ old.vertices.tables
+  pub vertex_label : new.vertices.label ≡ old.vertices.label
+  pub vertex_columns : new.vertices.columns ≡ old.vertices.columns
+  pub edge_tables : new.edges.tables ≡ old.edges.tables
+  pub edge_label : new.edges.label ≡ old.edges.label
+  pub edge_columns : new.edges.columns ≡ old.edges.columns
+  pub vertex_properties : new.vertex_properties ≡ old.vertex_properties
+  pub edge_properties : new.edge_properties ≡ old.edge_properties
 
-abbrev pub edge_list : Files → List ℕ → List ℤ → Result (List Edge) TableFault
-edge_list files name keys = bounded 2 1048576 (file_of name files) >>> λ text. formed 2 (edges_of keys text)
+-- how many properties there are
+abbrev pub properties_in : Loading → ℕ
+properties_in l = length l.vertex_properties + length l.edge_properties
 
-abbrev pub graph_of : Files → List ℕ × List ℕ → Result PropertyGraph TableFault
-graph_of files names =
-    key_list files names.0 >>> λ keys.
-    edge_list files names.1 keys >>> λ edges.
-    Ok (record { vertices = map vertex_of_key keys; edges = edges })
-
--- the graph of a manifest
-abbrev pub graph_from : Files → List ℕ → Result PropertyGraph TableFault
-graph_from files manifest = bounded 0 1048576 (file_of manifest files) >>> λ text. formed 0 (manifest_of text) >>> graph_of files
-
--- It is what loading gives, unless memory ran out or a load failed.
-abbrev pub FaultGives : {Y : Type 0} → TableFault → TableKind → Result Y TableFault → Type 0
-FaultGives e NoMemory read = Unit {0}
-FaultGives e ReadFault read = Unit {0}
-FaultGives e Missing read = read ≡ Err e
-FaultGives e NotBuilt read = read ≡ Err e
-
-abbrev pub LoadGives : {X Y : Type 0} → (X → Y) → Result X TableFault → Result Y TableFault → Type 0
-LoadGives view (Ok x) read = read ≡ Ok (view x)
-LoadGives view (Err e) read = FaultGives e e.kind read
-
--- Why a load ended so, by the counts before and after: `told` is whether the store tells its files.
-pub record HasCause {X F : Type 0} (files : Option F) (faults faults_now misses misses_now : ℕ) (result : Result X TableFault) : Type 0 where
-  pub faults_stay : faults ≤ faults_now
-  pub misses_stay : misses ≤ misses_now
-  pub failed : IfErr result (λ e. e.kind ≡ ReadFault → Rose faults faults_now)
-  pub missing : IfErr result (λ e. e.kind ≡ Missing → MatchOption files (Rose misses misses_now) (λ _. Unit {0}))
+-- What every graph keeps, its texts aside: edges end at vertices, and numbers fit 32 bits.
+pub record IsReadable (l : Loading) : Type 0 where
+  pub ends_beside : length l.ends.items ≡ length l.edges.elements
+  pub ends : AllByRecursion (EndsIn l.vertices.elements) (edges_with l.edges.elements l.ends.items)
+  pub few_vertices : length l.vertices.elements < 2 ^ 32
+  pub few_edges : length l.edges.elements < 2 ^ 32

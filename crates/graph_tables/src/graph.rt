@@ -1,92 +1,123 @@
-ghost use Rattle.std.specs.Prelude.{◌≡◌, ◌<◌, ◌^◌, length, Some};
-ghost use Rattle.std.specs.List.{slice_get};
+//! The graph that was loaded, and its readers.
+ghost use Rattle.std.specs.Prelude.{◌≡◌, ◌<◌, ◌^◌, [], length, slice_get, Some};
+ghost use Rattle.std.specs.List.{AllByRecursion};
+ghost use Rattle.std.specs.Option.{option_map};
+ghost use Rattle.element_store.specs.Columns.{value_of};
+ghost use Rattle.graph_tables.specs.Graph.{EndsIn, vertex_of};
+ghost use Rattle.graph_tables.specs.Loading.{IsSound, graph_of};
 
+use crate::loading::Loading;
+use crate::properties::{Properties, Schema};
+use adfs_base::Value;
+use std::alloc::Global;
 use std::marker::Model;
+use std::mem::replace;
+use value_text::Texts;
 
-/// A vertex.
-#[derive(Clone, Copy, Debug, PartialEq, Eq)]
-pub struct Vertex {
-    /// Its `id`, which no other vertex has.
-    pub key: i64,
-    /// The number of its label. So far it is 0 and stands for nothing.
-    pub label: u32,
-}
-
-/// A directed edge.
-#[derive(Clone, Copy, Debug, PartialEq, Eq)]
-pub struct Edge {
-    /// Its `id`, which no other edge has.
-    pub key: i64,
-    /// The number of its label. So far it is 0 and stands for nothing.
-    pub label: u32,
-    /// The number of the vertex from which it goes.
-    pub source: u32,
-    /// The number of the vertex to which it goes.
-    pub target: u32,
-}
-
-/// A property graph, seen as the list of its vertices and the list of its edges.
+/// A property graph.
+///
+/// A contract sees it as a `PropertyGraph`: the list of its vertices and that of its edges, in the order
+/// of their numbers, the texts that labels and values name, and the properties of either kind.
 #[derive(Drop)]
 pub struct Graph {
-    vertices: Vec<Vertex>,
-    edges: Vec<Edge>,
+    alloc: Global,
+    loaded: Loading,
 }
 
 impl Model for Graph {
-    ghost use Rattle.std.specs.Prelude.{◌<◌, ◌^◌, length};
-    ghost use Rattle.graph_tables.specs.Graph.{PropertyGraph, EndsWithin};
+    ghost use Rattle.graph_tables.specs.Graph.{PropertyGraph};
+    ghost use Rattle.graph_tables.specs.Loading.{IsReadable, graph_of};
 
     ghost Value = { PropertyGraph };
 
-    ghost view = { λ g. record { vertices = g.vertices.items; edges = g.edges.items } };
+    ghost view = { λ g. graph_of g.loaded };
 
-    ghost invariant = { λ g. (length g.vertices.items < 2 ^ 32) × (length g.edges.items < 2 ^ 32) × EndsWithin (length g.vertices.items) g.edges.items };
+    ghost invariant = { λ g. IsReadable g.loaded };
 }
 
 impl Graph {
-    ghost use Rattle.graph_tables.specs.Graph.{PropertyGraph, EndsWithin};
-
-    /// The graph of these vertices and edges.
-    pub(crate) fn new(vertices: Vec<Vertex>, edges: Vec<Edge>) -> Graph
-        requires vertices { length vertices.items < 2 ^ 32 }
-        requires edges { length edges.items < 2 ^ 32 }
-        requires ends { EndsWithin (length vertices.items) edges.items }
-        ensures { result ≡ record { vertices = vertices.items; edges = edges.items } }
+    /// The graph of what was loaded.
+    pub(crate) fn new(alloc: Global, loaded: Loading) -> Graph
+        requires { IsSound loaded }
+        ensures { result ≡ graph_of loaded }
     {
-        Graph { vertices, edges }
+        Graph { alloc, loaded }
     }
 
     /// How many vertices there are.
     pub fn vertices(&self) -> u32
         ensures number { result ≡ length self.now.vertices }
-        ensures ends { EndsWithin (length self.now.vertices) self.now.edges }
+        ensures ends { AllByRecursion (EndsIn self.now.vertices) self.now.edges }
     {
-        self.vertices.len() as u32
+        self.loaded.vertices.len()
     }
 
     /// How many edges there are.
     pub fn edges(&self) -> u32
         ensures { result ≡ length self.now.edges }
     {
-        self.edges.len() as u32
+        self.loaded.edges.len()
     }
 
-    /// The key and the label of a vertex.
-    pub fn vertex(&self, no: u32) -> (i64, u32)
-        requires { no < length self.now.vertices }
-        ensures { slice_get self.now.vertices no ≡ Some (record { key = result.0; label = result.1 }) }
+    /// The key and the label's number of a vertex.
+    pub fn vertex(&self, number: u32) -> (i64, u32)
+        requires { number < length self.now.vertices }
+        ensures { option_map (λ v. (v.key, v.label)) (slice_get self.now.vertices number) ≡ Some result }
     {
-        let vertex = self.vertices[no as usize];
-        (vertex.key, vertex.label)
+        self.loaded.vertices.get(number)
     }
 
-    /// The key, the label, the source and the target of an edge.
-    pub fn edge(&self, no: u32) -> (i64, u32, u32, u32)
-        requires { no < length self.now.edges }
-        ensures fields { slice_get self.now.edges no ≡ Some (record { key = result.0; label = result.1; source = result.2; target = result.3 }) }
-        ensures ends { (result.2 < length self.now.vertices) × (result.3 < length self.now.vertices) }
+    /// The key, the label's number, the source and the target of an edge.
+    pub fn edge(&self, number: u32) -> (i64, u32, u32, u32)
+        requires { number < length self.now.edges }
+        ensures fields { option_map (λ e. (e.key, e.label, e.source, e.target)) (slice_get self.now.edges number) ≡ Some result }
+        ensures source { result.2 < length self.now.vertices }
+        ensures target { result.3 < length self.now.vertices }
     {
-        let edge = self.edges[no as usize];
-        (edge.key, edge.label, edge.source, edge.target)
+        let (key, label) = self.loaded.edges.get(number);
+        let ends = self.loaded.ends[number as usize];
+        (key, label, ends.source, ends.target)
+    }
+
+    /// The value that a vertex has of a property; null where its table has no such property.
+    pub fn vertex_value(&self, number: u32, property: u32) -> Value
+        requires { number < length self.now.vertices }
+        ensures { option_map (λ v. value_of v.values property) (slice_get self.now.vertices number) ≡ Some result }
+    {
+        self.loaded.vertices.value(number, property)
+    }
+
+    /// The value that an edge has of a property; null where its table has no such property.
+    pub fn edge_value(&self, number: u32, property: u32) -> Value
+        requires { number < length self.now.edges }
+        ensures { option_map (λ e. value_of e.values property) (slice_get self.now.edges number) ≡ Some result }
+    {
+        self.loaded.edges.value(number, property)
+    }
+
+    /// The number of the vertex with this key; `None` exactly where no vertex has it.
+    pub fn vertex_of(&self, key: i64) -> Option<u32>
+        ensures { result ≡ vertex_of self.now.vertices key }
+    {
+        self.loaded.vertices.number_of(key)
+    }
+
+    /// Gives the schema and the texts away, and leaves empty ones. The vertices and edges stay, and their
+    /// labels and values go on to name those texts.
+    pub fn detach(&mut self) -> (Schema, Texts)
+        ensures schema { result.0 ≡ record { vertex = self.old.vertex_properties; edge = self.old.edge_properties } }
+        ensures texts { result.1 ≡ self.old.texts }
+        ensures rest { self.new ≡ record { vertices = self.old.vertices; edges = self.old.edges; texts = []; vertex_properties = []; edge_properties = [] } }
+    {
+        let vertex = replace(
+            &mut self.loaded.vertex_properties,
+            Properties::new(self.alloc),
+        );
+        let edge = replace(
+            &mut self.loaded.edge_properties,
+            Properties::new(self.alloc),
+        );
+        let texts = replace(&mut self.loaded.texts, Texts::new(self.alloc));
+        (Schema::new(vertex, edge), texts)
     }
 }

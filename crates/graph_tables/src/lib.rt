@@ -1,23 +1,33 @@
-//! From a manifest and two tables of keys to a property graph.
+//! Property graphs from tables.
 //!
-//! A `Graph` is seen as the list of its vertices and the list of its edges (`PropertyGraph`). A vertex and
-//! an edge are numbered by their places, from 0, in the order of their tables. The ends of each edge are
-//! numbers of vertices, always.
+//! A manifest names tables of vertices and of edges, which are read with their types into one graph
+//! (`load_graph`), or the first fault in order of manifest line, record and column is told. What the graph
+//! or the fault is stands in `specs/Loaded.antt`, as a fold over the lists of tables, records and cells;
+//! nothing there knows how the bytes are read.
 //!
-//! So far one form is read: a manifest of three lines, a vertex table with the header `id:int` and an edge
-//! table with the header `id:int,source:int,target:int`. `load_graph` gives exactly the graph that the
-//! files' bytes have by `graph_from` (specs/Loading.antt), or says which file was missing, could not be
-//! read, or isn't of that form (`TableKind::NotBuilt`).
+//! A contract sees a `Graph` as a `PropertyGraph` (`specs/Graph.antt`): the vertices and the edges in the
+//! order of their numbers, the texts, and the properties of either kind. Each edge ends at vertices. Right
+//! after `load_graph` each label and each value also means something under the texts (`IsWhole`), which
+//! stays so as long as the texts that `Graph::detach` gives away are kept beside the graph.
+//!
+//! A store's own faults come only where its counts rose in this call, and want of memory is an answer of
+//! its own. No call but `load_graph` takes memory.
 #![tactic(auto)]
 
+mod faults;
 mod graph;
+mod header;
 mod load;
+mod loading;
 mod manifest;
-mod reading;
-mod tables;
+mod names;
+mod properties;
+mod rows;
 
-pub use graph::{Edge, Graph, Vertex};
-pub use load::{TableFault, TableKind, load_graph};
+pub use faults::{Quantity, TableFault, TableKind};
+pub use graph::Graph;
+pub use load::load_graph;
+pub use properties::Schema;
 
 #[cfg(test)]
 mod tests;

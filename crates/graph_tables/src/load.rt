@@ -1,159 +1,270 @@
-ghost use Rattle.std.specs.Prelude.{◌≡◌, ◌≤◌, ◌<◌, ◌^◌, IfOk, IfErr, IfSome, Ok, length, map};
+//! Loading the files of a graph.
+ghost use Rattle.std.specs.Prelude.{◌≡◌, ◌<◌, ◌≤◌, ◌+◌, ◌-◌, ◌^◌, IfOk, IfSome, OnOk, length};
 ghost use Rattle.adfs_base.specs.Files.{file_of};
-ghost use Rattle.graph_tables.specs.Graph.{EndsWithin};
-ghost use Rattle.graph_tables.specs.Loading.{HasCause, LoadGives, bounded, edge_list, fault_of, faulted, graph_from, graph_of, key_list, vertex_of_key};
+ghost use Rattle.csv.specs.Records.{fields_of};
+ghost use Rattle.csv_records.specs.Table.{records_of};
+ghost use Rattle.value_text.specs.Texts.{number_of};
+ghost use Rattle.graph_tables.specs.Faults.{Gives, HasCause, Loads};
+ghost use Rattle.graph_tables.specs.Graph.{IsWhole};
+ghost use Rattle.graph_tables.specs.Loaded.{added_up, begun, edges_begun, file_bytes, loaded, most_of_all, most_of_file, table_records, tables_from, tables_named, vertices_begun, with_table};
+ghost use Rattle.graph_tables.specs.Loading.{IsSound, filled_of, graph_of, properties_in, tables_in};
+ghost use Rattle.graph_tables.specs.Manifest.{most_tables};
 
-use crate::graph::{Edge, Graph, Vertex};
-use crate::manifest::manifest;
-use crate::reading::Unread;
-use crate::tables::{edge_table, vertex_table};
+use crate::faults::{Place, Quantity, TableFault, TableKind, file_fault};
+use crate::graph::Graph;
+use crate::header::heading;
+use crate::loading::Loading;
+use crate::manifest::{ElementKind, TableLine, manifest};
+use crate::rows::take_records;
 use adfs_base::{Loaded, Store};
+use csv::ByteRecord;
+use csv_records::Records;
 use std::alloc::Global;
 
-/// What kept a graph from being loaded.
-#[derive(Clone, Copy, Debug, PartialEq, Eq)]
-pub enum TableKind {
-    /// The store has no file of the name.
-    Missing,
-    /// The store could not read the file.
-    ReadFault,
-    /// Memory ran out.
-    NoMemory,
-    /// The file is longer than 1,048,576 bytes, or its form isn't read yet.
-    NotBuilt,
-}
+/// The most bytes of one file, and of all tables together.
+const MOST_OF_FILE: u64 = 268_435_456;
 
-/// A fault and where it is.
-#[derive(Clone, Copy, Debug, PartialEq, Eq)]
-pub struct TableFault {
-    /// 0 for the manifest, and then 1 for the vertex table and 2 for the edge table.
-    pub file: u32,
-    /// The record, counted from 1, or 0 where the fault is that of the whole file.
-    pub row: u32,
-    /// The column, counted from 1, or 0 where the fault is that of the whole record.
-    pub column: u32,
-    pub kind: TableKind,
-}
+const MOST_OF_ALL: u64 = 1_073_741_824;
 
-fn fault(file: u32, kind: TableKind) -> TableFault
-    ensures { result ≡ fault_of file kind }
-{
-    TableFault {
-        file,
-        row: 0,
-        column: 0,
-        kind,
-    }
-}
-
-// What was read of a file, or its fault.
-fn formed<T>(file: u32, read: Result<T, Unread>) -> Result<T, TableFault>
-    ensures { result ≡ faulted file read }
-{
-    match read {
-        Ok(value) => Ok(value),
-        Err(Unread::Form) => Err(fault(file, TableKind::NotBuilt)),
-        Err(Unread::NoMemory) => Err(fault(file, TableKind::NoMemory)),
-    }
-}
-
-// The bytes of a file of bounded length.
+// Loads a file into `bytes`, in place of what they hold.
 fn load_file<S: Store>(
-    alloc: Global,
     store: &mut S,
     name: &str,
     file: u32,
-) -> Result<Vec<u8>, TableFault>
+    bytes: &mut Vec<u8>,
+) -> Result<(), TableFault>
     ensures kept { S.files store.new ≡ S.files store.old }
-    ensures gives { IfSome (S.files store.old) (λ files. LoadGives (λ v. v.items) result (bounded file 1048576 (file_of name.now files))) }
-    ensures bounded { IfOk result (λ v. length v.items ≤ 1048576) }
+    ensures gives { IfSome (S.files store.old) (λ files. Loads (λ _. bytes.new.items) result (file_bytes file (file_of name.now files))) }
+    ensures short { OnOk result (length bytes.new.items ≤ most_of_file) }
     ensures cause { HasCause (S.files store.old) (S.faults store.old) (S.faults store.new) (S.misses store.old) (S.misses store.new) result }
 {
-    let mut bytes = Vec::new(alloc);
-    match store.load(name, 1_048_576, &mut bytes) {
-        Loaded::Whole if bytes.len() <= 1_048_576 => Ok(bytes),
-        Loaded::Whole => Err(fault(file, TableKind::NotBuilt)),
-        Loaded::Missing => Err(fault(file, TableKind::Missing)),
-        Loaded::Failed => Err(fault(file, TableKind::ReadFault)),
-        Loaded::NoMemory => Err(fault(file, TableKind::NoMemory)),
+    bytes.clear();
+    match store.load(name, MOST_OF_FILE, bytes) {
+        Loaded::Whole if bytes.len() as u64 <= MOST_OF_FILE => Ok(()),
+        Loaded::Whole => Err(file_fault(file, TableKind::TooLong)),
+        Loaded::Missing => Err(file_fault(file, TableKind::Missing)),
+        Loaded::Failed => Err(file_fault(file, TableKind::ReadFault)),
+        Loaded::NoMemory => Err(file_fault(0, TableKind::NoMemory)),
     }
 }
 
-fn load_keys<S: Store>(alloc: Global, store: &mut S, name: &str) -> Result<Vec<i64>, TableFault>
-    ensures kept { S.files store.new ≡ S.files store.old }
-    ensures gives { IfSome (S.files store.old) (λ files. LoadGives (λ v. v.items) result (key_list files name.now)) }
-    ensures bounded { IfOk result (λ v. length v.items ≤ 1048576) }
-    ensures cause { HasCause (S.files store.old) (S.faults store.old) (S.faults store.new) (S.misses store.old) (S.misses store.new) result }
+// The bytes of the tables so far, this one included.
+fn add_up(file: u32, total: u64, bytes: &[u8]) -> Result<u64, TableFault>
+    requires total { total ≤ most_of_all }
+    requires short { length bytes.now ≤ most_of_file }
+    ensures sum { Gives (λ sum. sum) result (added_up file total bytes.now) }
+    ensures few { IfOk result (λ sum. sum ≤ most_of_all) }
+    ensures more { IfOk result (λ sum. sum ≡ total + length bytes.now) }
 {
-    let text = load_file(alloc, store, name, 1)?;
-    formed(1, vertex_table(alloc, &text))
+    let sum = total + bytes.len() as u64;
+    if sum > MOST_OF_ALL {
+        return Err(file_fault(file, TableKind::TooMany(Quantity::TotalBytes)));
+    }
+    Ok(sum)
 }
 
-fn load_edges<S: Store>(
+// Begins a table of vertices with its header.
+fn begin_vertices(
+    alloc: Global,
+    at: Place,
+    label: &[u8],
+    header: &ByteRecord,
+    loading: &mut Loading,
+) -> Result<(), TableFault>
+    requires sound { IsSound loading.old }
+    requires tables { tables_in loading.old < most_tables }
+    requires wide { properties_in loading.old + length (fields_of header.now) < 2 ^ 32 - 1 }
+    ensures gives { Gives (λ _. (loading.new.vertices.columns, graph_of loading.new)) result (vertices_begun at label.now (fields_of header.now) (graph_of loading.old)) }
+    ensures label { OnOk result (loading.new.vertices.label ≡ number_of loading.old.texts label.now) }
+    ensures sound { OnOk result (IsSound loading.new) }
+    ensures begun { OnOk result (loading.new.vertices.tables ≡ loading.old.vertices.tables + 1) }
+    ensures rest { OnOk result (loading.new.edges ≡ loading.old.edges) }
+    ensures properties { OnOk result (properties_in loading.new ≤ properties_in loading.old + length (fields_of header.now)) }
+{
+    let number = loading.texts.add(label)?;
+    let columns = heading(
+        alloc,
+        ElementKind::Vertex,
+        at,
+        header,
+        &mut loading.vertex_properties,
+    )?;
+    loading.vertices.begin_table(alloc, number, columns)?;
+    Ok(())
+}
+
+// Begins a table of edges with its header.
+fn begin_edges(
+    alloc: Global,
+    at: Place,
+    label: &[u8],
+    header: &ByteRecord,
+    loading: &mut Loading,
+) -> Result<(), TableFault>
+    requires sound { IsSound loading.old }
+    requires tables { tables_in loading.old < most_tables }
+    requires wide { properties_in loading.old + length (fields_of header.now) < 2 ^ 32 - 1 }
+    ensures gives { Gives (λ _. (loading.new.edges.columns, graph_of loading.new)) result (edges_begun at label.now (fields_of header.now) (graph_of loading.old)) }
+    ensures label { OnOk result (loading.new.edges.label ≡ number_of loading.old.texts label.now) }
+    ensures sound { OnOk result (IsSound loading.new) }
+    ensures begun { OnOk result (loading.new.edges.tables ≡ loading.old.edges.tables + 1) }
+    ensures rest { OnOk result (loading.new.vertices ≡ loading.old.vertices) }
+    ensures properties { OnOk result (properties_in loading.new ≤ properties_in loading.old + length (fields_of header.now)) }
+{
+    let number = loading.texts.add(label)?;
+    let columns = heading(
+        alloc,
+        ElementKind::Edge,
+        at,
+        header,
+        &mut loading.edge_properties,
+    )?;
+    loading.edges.begin_table(alloc, number, columns)?;
+    Ok(())
+}
+
+// Begins the table of a header.
+fn begin_table(
+    alloc: Global,
+    at: Place,
+    table: &TableLine,
+    header: &ByteRecord,
+    loading: &mut Loading,
+) -> Result<(), TableFault>
+    requires sound { IsSound loading.old }
+    requires tables { tables_in loading.old < most_tables }
+    requires wide { properties_in loading.old + length (fields_of header.now) < 2 ^ 32 - 1 }
+    ensures gives { Gives (λ _. ((filled_of table.now.of loading.new).columns, graph_of loading.new)) result (begun at table.now (fields_of header.now) (graph_of loading.old)) }
+    ensures label { OnOk result ((filled_of table.now.of loading.new).label ≡ number_of loading.old.texts table.now.label) }
+    ensures sound { OnOk result (IsSound loading.new) }
+    ensures table { OnOk result (0 < (filled_of table.now.of loading.new).tables) }
+    ensures tables { OnOk result (tables_in loading.new ≡ tables_in loading.old + 1) }
+    ensures properties { OnOk result (properties_in loading.new ≤ properties_in loading.old + length (fields_of header.now)) }
+{
+    let label = table.label.text().as_bytes();
+    match table.of {
+        ElementKind::Vertex => begin_vertices(alloc, at, label, header, loading),
+        ElementKind::Edge => begin_edges(alloc, at, label, header, loading),
+    }
+}
+
+// Adds the elements of a table's bytes.
+fn take_table(
+    alloc: Global,
+    file: u32,
+    table: &TableLine,
+    bytes: &[u8],
+    loading: &mut Loading,
+) -> Result<(), TableFault>
+    requires short { length bytes.now ≤ most_of_file }
+    requires sound { IsSound loading.old }
+    requires tables { tables_in loading.old < most_tables }
+    requires wide { properties_in loading.old + length bytes.now + 1 < 2 ^ 32 - 1 }
+    ensures gives { Gives (λ _. graph_of loading.new) result (table_records file table.now (records_of bytes.now) (graph_of loading.old)) }
+    ensures sound { OnOk result (IsSound loading.new) }
+    ensures tables { OnOk result (tables_in loading.new ≡ tables_in loading.old + 1) }
+    ensures properties { OnOk result (properties_in loading.new ≤ properties_in loading.old + length bytes.now + 1) }
+{
+    let at = Place { file, row: 1 };
+    let mut records = Records::new(alloc, bytes);
+    let mut header = ByteRecord::new(alloc);
+    if !records.next(&mut header)? {
+        return Err(at.fault(1, TableKind::BadHeader));
+    }
+    begin_table(alloc, at, table, &header, loading)?;
+    take_records(alloc, table.of, file, &mut records, loading)?;
+    Ok(())
+}
+
+// Loads a table, and answers the bytes of the tables so far.
+fn load_table<S: Store>(
     alloc: Global,
     store: &mut S,
-    name: &str,
-    keys: &[i64],
-) -> Result<Vec<Edge>, TableFault>
-    requires { length keys.now ≤ 1048576 }
+    file: u32,
+    table: &TableLine,
+    total: u64,
+    bytes: &mut Vec<u8>,
+    loading: &mut Loading,
+) -> Result<u64, TableFault>
+    requires total { total ≤ most_of_all }
+    requires sound { IsSound loading.old }
+    requires tables { tables_in loading.old < most_tables }
+    requires wide { properties_in loading.old ≤ total + most_tables }
     ensures kept { S.files store.new ≡ S.files store.old }
-    ensures gives { IfSome (S.files store.old) (λ files. LoadGives (λ v. v.items) result (edge_list files name.now keys.now)) }
-    ensures bounded { IfOk result (λ v. length v.items ≤ 1048576) }
-    ensures ends { IfOk result (λ v. EndsWithin (length keys.now) v.items) }
+    ensures gives { IfSome (S.files store.old) (λ files. Loads (λ sum. (sum, graph_of loading.new)) result (with_table files file table.now (total, graph_of loading.old))) }
+    ensures total { IfOk result (λ sum. sum ≤ most_of_all) }
+    ensures sound { OnOk result (IsSound loading.new) }
+    ensures tables { OnOk result (tables_in loading.new ≡ tables_in loading.old + 1) }
+    ensures properties { IfOk result (λ sum. properties_in loading.new + total ≤ properties_in loading.old + sum + 1) }
     ensures cause { HasCause (S.files store.old) (S.faults store.old) (S.faults store.new) (S.misses store.old) (S.misses store.new) result }
 {
-    let text = load_file(alloc, store, name, 2)?;
-    formed(2, edge_table(alloc, keys, &text))
+    load_file(store, table.file.text(), file, bytes)?;
+    let sum = add_up(file, total, bytes)?;
+    take_table(alloc, file, table, bytes, loading)?;
+    Ok(sum)
 }
 
-fn vertices_of(alloc: Global, keys: &[i64]) -> Result<Vec<Vertex>, Unread>
-    ensures gives { IfOk result (λ v. v.items ≡ map vertex_of_key keys.now) }
-    ensures memory { IfErr result (λ e. e ≡ Unread.NoMemory) }
-{
-    Ok(
-        keys.iter()
-            .map(|key| Vertex {
-                key: *key,
-                label: 0,
-            })
-            .collect(alloc)?,
-    )
-}
-
-// The graph of two tables.
+// Loads the tables in order, and answers their bytes. `bytes` is where each is read to.
 fn load_tables<S: Store>(
     alloc: Global,
     store: &mut S,
-    vertices: &str,
-    edges: &str,
-) -> Result<Graph, TableFault>
+    tables: &[TableLine],
+    bytes: &mut Vec<u8>,
+    loading: &mut Loading,
+) -> Result<u64, TableFault>
+    requires few { length tables.now ≤ most_tables }
+    requires sound { IsSound loading.old }
+    requires tables { tables_in loading.old ≡ 0 }
+    requires properties { properties_in loading.old ≡ 0 }
     ensures kept { S.files store.new ≡ S.files store.old }
-    ensures gives { IfSome (S.files store.old) (λ files. LoadGives (λ g. g) result (graph_of files (vertices.now, edges.now))) }
+    ensures gives { IfSome (S.files store.old) (λ files. Loads (λ sum. (sum, graph_of loading.new)) result (tables_from files 1 tables.now (0, graph_of loading.old))) }
+    ensures sound { OnOk result (IsSound loading.new) }
     ensures cause { HasCause (S.files store.old) (S.faults store.old) (S.faults store.new) (S.misses store.old) (S.misses store.new) result }
 {
-    let keys = load_keys(alloc, store, vertices)?;
-    let edges = load_edges(alloc, store, edges, &keys)?;
-    let vertices = formed(1, vertices_of(alloc, &keys))?;
-    Ok(Graph::new(vertices, edges))
+    let mut total = 0;
+    for i in 0..tables.len() {
+        let file = i as u32 + 1;
+        total = load_table(alloc, store, file, &tables[i], total, bytes, loading)?;
+    }
+    Ok(total)
 }
 
-/// Loads the manifest and then the tables that it names, each as one file of the store.
+// The tables of a manifest that a store has.
+fn load_manifest<S: Store>(
+    alloc: Global,
+    store: &mut S,
+    name: &str,
+    bytes: &mut Vec<u8>,
+) -> Result<Vec<TableLine>, TableFault>
+    ensures kept { S.files store.new ≡ S.files store.old }
+    ensures gives { IfSome (S.files store.old) (λ files. Loads (λ tables. tables.items) result (tables_named files name.now)) }
+    ensures few { IfOk result (λ tables. length tables.items ≤ most_tables) }
+    ensures cause { HasCause (S.files store.old) (S.faults store.old) (S.faults store.new) (S.misses store.old) (S.misses store.new) result }
+{
+    load_file(store, name, 0, bytes)?;
+    let tables = manifest(alloc, bytes)?;
+    Ok(tables)
+}
+
+/// Loads the graph of a manifest and the tables that it names.
 ///
-/// Where the store tells its files, the answer is what `graph_from` gives for them, unless a load failed or
-/// memory ran out. `ReadFault` comes only where the store's faults rose in this call. `Missing` comes only
-/// where the told files lack the name, or where they aren't told and the store's misses rose.
+/// Where the store tells its files, the answer is exactly `loaded` of them: the graph, or the first fault
+/// in order of manifest line, record and column. A load that failed is answered only where the store's
+/// count of faults rose in this call, and a file that the store lacks, where its files aren't told, only
+/// where its count of misses did.
 pub fn load_graph<S: Store>(
     alloc: Global,
     store: &mut S,
-    manifest_name: &str,
+    manifest: &str,
 ) -> Result<Graph, TableFault>
     ensures kept { S.files store.new ≡ S.files store.old }
-    ensures gives { IfSome (S.files store.old) (λ files. LoadGives (λ g. g) result (graph_from files manifest_name.now)) }
+    ensures gives { IfSome (S.files store.old) (λ files. Loads (λ graph. graph) result (loaded files manifest.now)) }
+    ensures whole { IfOk result IsWhole }
     ensures cause { HasCause (S.files store.old) (S.faults store.old) (S.faults store.new) (S.misses store.old) (S.misses store.new) result }
 {
-    let text = load_file(alloc, store, manifest_name, 0)?;
-    match manifest(&text) {
-        Some((vertices, edges)) => load_tables(alloc, store, vertices, edges),
-        None => Err(fault(0, TableKind::NotBuilt)),
-    }
+    let mut bytes = Vec::new(alloc);
+    let tables = load_manifest(alloc, store, manifest, &mut bytes)?;
+    let mut loading = Loading::new(alloc);
+    load_tables(alloc, store, &tables, &mut bytes, &mut loading)?;
+    Ok(Graph::new(alloc, loading))
 }

@@ -1,5 +1,6 @@
 // Each status's line for a user.
 use crate::Status;
+use graph_tables::Quantity;
 use std::test::Fail;
 
 #[test]
@@ -10,6 +11,25 @@ fn each_status_has_its_line(rt: HostRuntime) -> Result<(), Fail> {
             Status::Usage { word: 2 },
             2,
             "adfs: word 2 is outside the form\n",
+        ),
+        (
+            Status::TableFault {
+                file: 2,
+                row: 7,
+                column: 3,
+                code: 34,
+                cell: 0,
+            },
+            3,
+            "adfs: file 2 record 7 column 3 refused 34 cell 0\n",
+        ),
+        (
+            Status::Limit {
+                quantity: Quantity::Tables,
+                number: 256,
+            },
+            8,
+            "adfs: limit Tables 256\n",
         ),
         (
             Status::ReadFault { file: 1 },

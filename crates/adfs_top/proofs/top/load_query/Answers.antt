@@ -1,14 +1,21 @@
-use Rattle.std.proofs.Common.{rules, refl, ◌≡◌, true, false}
-use Rattle.adfs_top.specs.Outcome.{is_query}
-use Rattle.adfs_top.proofs.QueryFile.{query_found, query_refused}
+use Rattle.std.proofs.Common.{rules, refl, ◌≡◌, ◌<◌, ◌≤◌, true, false, length}
+use Rattle.pgql_syntax.specs.FirstForm.{is_first_form}
+use Rattle.adfs_top.proofs.QueryFile.{query_found, query_long, query_other}
 use Rattle.adfs_top.proofs.top.load_query.Goals as goal
 
 pub returns-in-Whole-clause-gives : goal.returns-in-Whole-clause-gives
 returns-in-Whole-clause-gives g c =
-    let yes : is_query c.load.new.into.items ≡ true = search rules in
-    query_found (g.S.Store.files c.args.store.now) c.args.queries.now c.load.new.into.items (c.in-Whole.ensures.whole refl) yes
+    let long : 268435456 < length c.load.new.into.items = search rules in
+    rw c.passed.ensures (query_long (g.S.Store.files c.args.store.now) c.args.queries.now c.load.new.into.items (c.in-Whole.ensures.whole refl) long)
 
 pub returns-in-Whole-2-clause-gives : goal.returns-in-Whole-2-clause-gives
 returns-in-Whole-2-clause-gives g c =
-    let no : is_query c.load.new.into.items ≡ false = search rules in
-    query_refused (g.S.Store.files c.args.store.now) c.args.queries.now c.load.new.into.items (c.in-Whole-2.ensures.whole refl) no
+    let short : length c.load.new.into.items ≤ 268435456 = search rules in
+    let known : is_first_form c.load.new.into.items ≡ true = search rules in
+    query_found (g.S.Store.files c.args.store.now) c.args.queries.now c.load.new.into.items (c.in-Whole-2.ensures.whole refl) short known
+
+pub returns-in-Whole-3-clause-gives : goal.returns-in-Whole-3-clause-gives
+returns-in-Whole-3-clause-gives g c =
+    let short : length c.load.new.into.items ≤ 268435456 = search rules in
+    let other : is_first_form c.load.new.into.items ≡ false = search rules in
+    query_other (g.S.Store.files c.args.store.now) c.args.queries.now c.load.new.into.items (c.in-Whole-3.ensures.whole refl) short other

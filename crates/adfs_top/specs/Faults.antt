@@ -1,0 +1,54 @@
+-- The status of a fault in the manifest or a table.
+use Rattle.std.specs.Prelude.{ℕ, Result, Ok, Err}
+use Rattle.value_text.specs.declared.cells.CellFault.{CellFault}
+use Rattle.value_text.specs.declared.cells.CellFault.TheVariants as cell
+use Rattle.graph_tables.specs.declared.faults.Quantity.{Quantity}
+use Rattle.graph_tables.specs.declared.faults.Quantity.TheVariants as quantity
+use Rattle.graph_tables.specs.declared.faults.TableKind.{TableKind}
+use Rattle.graph_tables.specs.declared.faults.TableKind.TheVariants as kind
+use Rattle.graph_tables.specs.declared.faults.TableFault as fault
+use Rattle.adfs_top.specs.declared.status.Status.{Status}
+use Rattle.adfs_top.specs.declared.status.Status.TheVariants.{TableFault, ReadFault, Missing, NoMemory, Limit}
+
+-- the number at which a quantity is limited
+abbrev pub limit_of : Quantity → ℕ
+limit_of quantity.FileBytes = 268435456
+limit_of quantity.TotalBytes = 1073741824
+limit_of quantity.Tables = 256
+limit_of quantity.Vertices = 4194304
+limit_of quantity.Edges = 16777216
+limit_of quantity.Cells = 67108864
+limit_of quantity.Queries = 4096
+
+-- a fault at its place, by its number and that of its cell
+abbrev pub refused : fault.TableFault → ℕ → ℕ → Status
+refused e code cell = TableFault e.file e.row e.column code cell
+
+abbrev pub status_of_cell : fault.TableFault → CellFault → Status
+status_of_cell e cell.BadInt = refused e 32 20
+status_of_cell e cell.WideInt = refused e 32 21
+status_of_cell e cell.BadBool = refused e 32 22
+status_of_cell e cell.BadDate = refused e 32 23
+status_of_cell e cell.BadText = refused e 32 24
+status_of_cell e cell.WrongCount = refused e 32 25
+status_of_cell e cell.NoMemory = NoMemory
+
+abbrev pub status_of_kind : fault.TableFault → TableKind → Status
+status_of_kind e kind.BadManifest = refused e 30 0
+status_of_kind e kind.BadHeader = refused e 31 0
+status_of_kind e (kind.BadCell f) = status_of_cell e f
+status_of_kind e kind.DoubleKey = refused e 33 0
+status_of_kind e kind.NoSuchVertex = refused e 34 0
+status_of_kind e kind.TooLong = Limit quantity.FileBytes (limit_of quantity.FileBytes)
+status_of_kind e (kind.TooMany q) = Limit q (limit_of q)
+status_of_kind e kind.Missing = Missing e.file
+status_of_kind e kind.ReadFault = ReadFault e.file
+status_of_kind e kind.NoMemory = NoMemory
+
+abbrev pub status_of_fault : fault.TableFault → Status
+status_of_fault e = status_of_kind e e.kind
+
+-- a graph, or the status of its fault
+abbrev pub with_status : {A : Type 0} → Result A fault.TableFault → Result A Status
+with_status (Ok x) = Ok x
+with_status (Err e) = Err (status_of_fault e)

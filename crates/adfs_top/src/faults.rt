@@ -1,0 +1,77 @@
+//! The status of a fault in the manifest or a table.
+ghost use Rattle.std.specs.Prelude.{◌≡◌};
+ghost use Rattle.adfs_top.specs.Faults as faults;
+ghost use Rattle.adfs_top.specs.Faults.{refused};
+
+use crate::Status;
+use graph_tables::{Quantity, TableFault, TableKind};
+use value_text::CellFault;
+
+/// The number at which a quantity is limited.
+pub fn limit_of(quantity: Quantity) -> u64
+    ensures { result ≡ faults.limit_of quantity }
+{
+    match quantity {
+        Quantity::FileBytes => 268_435_456,
+        Quantity::TotalBytes => 1_073_741_824,
+        Quantity::Tables => 256,
+        Quantity::Vertices => 4_194_304,
+        Quantity::Edges => 16_777_216,
+        Quantity::Cells => 67_108_864,
+        Quantity::Queries => 4_096,
+    }
+}
+
+/// The status of a quantity above its limit.
+pub fn passed(quantity: Quantity) -> Status
+    ensures { result ≡ Status.Limit quantity (faults.limit_of quantity) }
+{
+    Status::Limit {
+        quantity,
+        number: limit_of(quantity),
+    }
+}
+
+fn refused(fault: TableFault, code: u32, cell: u32) -> Status
+    ensures { result ≡ refused fault code cell }
+{
+    Status::TableFault {
+        file: fault.file,
+        row: fault.row,
+        column: fault.column,
+        code,
+        cell,
+    }
+}
+
+fn status_of_cell(fault: TableFault, cell: CellFault) -> Status
+    ensures { result ≡ faults.status_of_cell fault cell }
+{
+    match cell {
+        CellFault::BadInt => refused(fault, 32, 20),
+        CellFault::WideInt => refused(fault, 32, 21),
+        CellFault::BadBool => refused(fault, 32, 22),
+        CellFault::BadDate => refused(fault, 32, 23),
+        CellFault::BadText => refused(fault, 32, 24),
+        CellFault::WrongCount => refused(fault, 32, 25),
+        CellFault::NoMemory => Status::NoMemory,
+    }
+}
+
+/// The status of a fault.
+pub fn status_of(fault: TableFault) -> Status
+    ensures { result ≡ faults.status_of_fault fault }
+{
+    match fault.kind {
+        TableKind::BadManifest => refused(fault, 30, 0),
+        TableKind::BadHeader => refused(fault, 31, 0),
+        TableKind::BadCell(cell) => status_of_cell(fault, cell),
+        TableKind::DoubleKey => refused(fault, 33, 0),
+        TableKind::NoSuchVertex => refused(fault, 34, 0),
+        TableKind::TooLong => passed(Quantity::FileBytes),
+        TableKind::TooMany(quantity) => passed(quantity),
+        TableKind::Missing => Status::Missing { file: fault.file },
+        TableKind::ReadFault => Status::ReadFault { file: fault.file },
+        TableKind::NoMemory => Status::NoMemory,
+    }
+}

@@ -1,0 +1,9 @@
+pub mod Defaults
+pub mod Fault
+pub mod Form
+pub mod Help
+pub mod Laws
+pub mod Rows
+pub mod Said
+pub mod Unread
+pub mod Values

@@ -1,0 +1,66 @@
+ghost use Rattle.std.specs.Prelude.{◌≡◌, ◌≤◌, map};
+ghost use Rattle.std.specs.String.{string_bytes};
+ghost use Rattle.cli_words.specs.Form.{options_of, read_on};
+ghost use Rattle.cli_words.specs.Said.{to_come};
+ghost use Rattle.cli_words.specs.Fault.{GivesOptions};
+
+use crate::command::command_named;
+use crate::options::Options;
+use crate::reading::Reading;
+use crate::unread::Unread;
+use std::alloc::Global;
+
+/// Why words are no command line.
+#[derive(Clone, Copy, Debug, PartialEq, Eq)]
+pub enum UsageFault {
+    /// The place, from 0, of the first word with which no command line goes on; or the number of words, where
+    /// some are missing.
+    Word(u32),
+    /// Memory ran out.
+    NoMemory,
+}
+
+/// What the words say: the command's word first, then its file words in order, and among them its options.
+///
+/// An option is `--name value` or `--name=value`, and is given at most once. The word after `--name` is its
+/// value, whatever it begins with. Any other word that begins with `-` is no part of a command line. A number
+/// is 1 to 20 decimal digits within its range. A file word, and the file of `--part listed:FILE`, isn't empty
+/// and has no byte below 0x20.
+///
+/// `Word` comes exactly where the words are no command line. A value out of its range is refused at the word
+/// that holds it, an option's name at which nothing follows at the number of words.
+pub fn read_words(alloc: Global, words: &[String]) -> Result<Options, UsageFault>
+    ensures { GivesOptions result (options_of (map string_bytes words.now)) }
+{
+    let [first, rest @ ..] = words else {
+        return Err(UsageFault::Word(0));
+    };
+    let Some(command) = command_named(first.as_str()) else {
+        return Err(UsageFault::Word(0));
+    };
+    let Ok(reading) = Reading::at_first(alloc, command) else {
+        return Err(UsageFault::NoMemory);
+    };
+    read_on(alloc, rest, reading)
+}
+
+// What the words say after the command's word, where that said this.
+fn read_on(alloc: Global, words: &[String], first: Reading) -> Result<Options, UsageFault>
+    requires { to_come first ≤ 20 }
+    ensures { GivesOptions result (read_on (map string_bytes words.now) 1 first) }
+{
+    let mut reading = first;
+    let mut place = 1;
+    for word in words {
+        reading = match reading.read_word(alloc, word.as_str()) {
+            Ok(next) => next,
+            Err(Unread::Form) => return Err(UsageFault::Word(place)),
+            Err(Unread::NoMemory) => return Err(UsageFault::NoMemory),
+        };
+        place += 1;
+    }
+    match reading.finish() {
+        Some(options) => Ok(options),
+        None => Err(UsageFault::Word(place)),
+    }
+}

@@ -1,0 +1,13 @@
+use Rattle.std.proofs.Common.{◌≡◌, ◌∙◌, ◌<◌, sym, arith, refl, length}
+use Rattle.element_store.proofs.RowFacts.{length-rows_of, rows_after, total_after}
+use Rattle.element_store.proofs.table.Table.push.Goals as goal
+
+pub overflow_add-self : goal.overflow_add-self
+overflow_add-self c =
+    let size = length-rows_of c.self.inside.columns c.self.inside.rows c.self.inside.cells in
+    let few = rw (← c.self.view_is) at c.requires.few in
+    omega (arith, size, few)
+
+pub returns-clause-ok : goal.returns-clause-ok
+returns-clause-ok c =
+    rw (← c.self.view_is, rows_after c.self.inside.columns c.self.inside.rows c.args.values.now c.self.inside.cells c.push_row.new.cells c.self.invariant c.in_ok-push_row.ensures.ok) refl

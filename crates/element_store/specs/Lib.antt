@@ -1,0 +1,6 @@
+pub mod Bits
+pub mod Cells
+pub mod Columns
+pub mod Elements
+pub mod Tables
+pub mod Words

@@ -1,0 +1,79 @@
+//! Words, each of which may be missing.
+ghost use Rattle.std.specs.Prelude.{◌≡◌, ◌<◌, ◌≤◌, ◌^◌, ◌++◌, ◌∷◌, [], OnOk, OnErr, Some, length, slice_get, take};
+
+use crate::bits::Bits;
+use std::alloc::{AllocError, Global};
+use std::marker::Model;
+
+/// A list of words, each of which may be missing, seen as a list of options.
+#[derive(Drop)]
+pub struct Cells {
+    words: Vec<u64>,
+    present: Bits,
+}
+
+impl Model for Cells {
+    ghost use Rattle.std.specs.Prelude.{List, ℕ, Option, ◌≡◌, length};
+    ghost use Rattle.element_store.specs.Cells.{words_where};
+
+    ghost Value = { List (Option ℕ) };
+
+    ghost view = { λ a. words_where a.present a.words.items };
+
+    ghost invariant = { λ a. length a.present ≡ length a.words.items };
+}
+
+impl Cells {
+    /// No words.
+    pub fn new(alloc: Global) -> Cells
+        ensures { result ≡ [] }
+    {
+        Cells {
+            words: Vec::new(alloc),
+            present: Bits::new(alloc),
+        }
+    }
+
+    /// How many words there are, those that are missing among them.
+    pub fn len(&self) -> usize
+        ensures length { result ≡ length self.now }
+        ensures fits { length self.now < 2 ^ 63 }
+    {
+        self.words.len()
+    }
+
+    /// The word at a place, if it is there.
+    pub fn get(&self, place: usize) -> Option<u64>
+        requires { place < length self.now }
+        ensures { slice_get self.now place ≡ Some result }
+    {
+        if self.present.get(place) {
+            Some(self.words[place])
+        } else {
+            None
+        }
+    }
+
+    /// Adds a word at the end. After want of memory nothing has changed.
+    pub fn push(&mut self, word: Option<u64>) -> Result<(), AllocError>
+        ensures ok { OnOk result (self.new ≡ self.old ++ word ∷ []) }
+        ensures err { OnErr result (self.new ≡ self.old) }
+    {
+        let len = self.words.len();
+        self.present.push(word.is_some())?;
+        if self.words.push(word.unwrap_or(0)).is_err() {
+            self.present.truncate(len);
+            return Err(AllocError);
+        }
+        Ok(())
+    }
+
+    /// Keeps the first words alone.
+    pub fn truncate(&mut self, len: usize)
+        requires { len ≤ length self.old }
+        ensures { self.new ≡ take len self.old }
+    {
+        self.words.truncate(len);
+        self.present.truncate(len);
+    }
+}

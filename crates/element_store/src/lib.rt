@@ -1,0 +1,27 @@
+//! Where a graph keeps the keys and the property values of its elements.
+//!
+//! The elements of a kind, the vertices or the edges, come from tables. All rows of a table have the same
+//! columns, so a table keeps its rows in one flat array, row after row: a cell is a word of 8 bytes with a
+//! bit beside it that says whether the cell has a value. No row and no cell has memory of its own.
+//!
+//! A contract sees `Elements` as `Filled`: the list of the elements, each with its key, its label and the
+//! values of its columns, and beside it what the table that is being filled says of its rows.
+//!
+//! The invariants are these. Each table has a row of cells for each of its elements. The tables stand in
+//! the order of their elements, and each knows the number of its first one. The index of keys has the key
+//! of each element at the element's number.
+#![tactic(auto)]
+
+mod bits;
+mod cells;
+mod columns;
+mod elements;
+mod table;
+mod words;
+
+pub use bits::Bits;
+pub use cells::Cells;
+pub use columns::Columns;
+pub use elements::Elements;
+pub use table::Table;
+pub use words::{value_from, word_of};

@@ -1,0 +1,4 @@
+mod Between
+mod Digits
+mod Parts
+mod Steps

@@ -1,0 +1,6 @@
+pub mod Days
+pub mod Numerals
+pub mod Orders
+pub mod Places
+pub mod ReadsBack
+pub mod Staying

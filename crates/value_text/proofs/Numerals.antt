@@ -1,0 +1,100 @@
+-- What an int cell says, against what `parse` says.
+use Rattle.std.proofs.Common.{◌≡◌, refl, arith, ◌<◌, ℕ, zero, suc, Bool, true, false, cond, ◌&&◌, ◌==◌, drop, List, [], ◌∷◌, length, ℤ, pos, negsuc, MatchResult, Ok, Err, Result, nat_lt, w64, IsUtf8}
+use Rattle.std.proofs.lemmas.Bool.{false≢true}
+use Rattle.std.proofs.lemmas.Bool.Decides.{nat_tests}
+use Rattle.std.proofs.lemmas.Fmt.{IsAscii-from_digits, decimal_is_IsNumeral}
+use Rattle.std.proofs.lemmas.Int.Digits.{}
+use Rattle.std.proofs.lemmas.Str.{IsUtf8-from_ascii}
+use Rattle.std.proofs.lemmas.Str.Parse.{digit_from_value}
+use Rattle.std.specs.Char.{digit_value, is_ascii_digit}
+use Rattle.std.specs.Fmt.{decimal}
+use Rattle.std.specs.Int.RustNames.{FitsSigned}
+use Rattle.std.specs.List.{list_all}
+use Rattle.std.specs.Str.{IsAscii}
+use Rattle.std.specs.Str.Parse.{AllDigits, IsNumeral, ParsesSigned, signed_digits_value, starts_with_minus, without_leading_sign}
+use Rattle.value_text.specs.Numbers.{int_cell, is_i64, is_numeral}
+use Rattle.value_text.specs.Shown.{shown_int}
+use Rattle.value_text.specs.declared.cells.CellFault.TheVariants as fault
+
+both : (a b : Bool) → (a && b) ≡ true → (a ≡ true) × (b ≡ true)
+both true true e = (refl, refl)
+both true false e = absurd (false≢true e)
+both false b e = absurd (false≢true e)
+
+digit : (c : ℕ) → is_ascii_digit c ≡ true → digit_value c < 10
+digit c h = grind (arith, nat_tests)
+
+digit_back : (c : ℕ) → digit_value c < 10 → is_ascii_digit c ≡ true
+digit_back c h = let r = digit_from_value c h in grind (arith, nat_tests)
+
+digits : (ds : List ℕ) → list_all is_ascii_digit ds ≡ true → AllDigits 10 ds
+digits [] h = tt
+digits (c ∷ cs) h = let b = both (is_ascii_digit c) (list_all is_ascii_digit cs) h in (digit c b.0, digits cs b.1)
+
+digits_back : (ds : List ℕ) → AllDigits 10 ds → list_all is_ascii_digit ds ≡ true
+digits_back [] h = refl
+digits_back (c ∷ cs) h = rw (digit_back c h.0, digits_back cs h.1) refl
+
+pub numeral : (ds : List ℕ) → is_numeral ds ≡ true → IsNumeral 10 ds
+numeral ds h = let b = both (nat_lt 0 (length ds)) (list_all is_ascii_digit ds) h in (grind (arith, nat_tests), digits ds b.1)
+
+fits : (z : ℤ) → is_i64 z ≡ true → FitsSigned w64 z
+fits (pos n) h = record { sfits = grind (arith, nat_tests) }
+fits (negsuc n) h = record { sfits = grind (arith, nat_tests) }
+
+fits_back : (z : ℤ) → FitsSigned w64 z → is_i64 z ≡ true
+fits_back (pos n) h = let s = h.sfits in grind (arith, nat_tests)
+fits_back (negsuc n) h = let s = h.sfits in grind (arith, nat_tests)
+
+-- what `parse` gives of a text of the right form
+pub int_is : {E : Type 0} (bytes : List ℕ) (r : Result ℤ E) → is_numeral (without_leading_sign bytes) ≡ true → ParsesSigned w64 10 bytes r
+    → MatchResult r (λ z. Ok z ≡ int_cell bytes) (λ _. Err fault.WideInt ≡ int_cell bytes)
+int_is bytes (Ok z) n h = rw (n, fits_back (signed_digits_value 10 bytes) h.0.1, h.1) refl
+int_is bytes (Err e) n h = by (is_i64 (signed_digits_value 10 bytes)) refl
+  where
+    by : (b : Bool) → is_i64 (signed_digits_value 10 bytes) ≡ b → Err fault.WideInt ≡ int_cell bytes
+    by true is = absurd (h (numeral (without_leading_sign bytes) n, fits (signed_digits_value 10 bytes) is))
+    by false is = rw (n, is) refl
+
+-- and of another text
+pub int_none : (bytes : List ℕ) → is_numeral (without_leading_sign bytes) ≡ false → Err fault.BadInt ≡ int_cell bytes
+int_none bytes n = rw n refl
+
+-- a text of the right form is ASCII
+signed_ascii : (b : ℕ) (rest : List ℕ) → b < 128 → IsAscii rest → IsAscii (b ∷ rest)
+signed_ascii b rest h k zero = h
+signed_ascii b rest h k (suc i) = k i
+
+front_ascii : (b : ℕ) (rest : List ℕ) → AllDigits 10 (without_leading_sign (b ∷ rest)) → IsAscii (b ∷ rest)
+front_ascii b rest = by (starts_with_minus (b ∷ rest)) (b == 43) refl refl
+  where
+    by : (x y : Bool) → (b == 45) ≡ x → (b == 43) ≡ y → AllDigits 10 (cond x rest (drop (cond y 1 0) (b ∷ rest))) → IsAscii (b ∷ rest)
+    by true y e f h = signed_ascii b rest (grind (arith, nat_tests)) (IsAscii-from_digits rest h)
+    by false true e f h = signed_ascii b rest (grind (arith, nat_tests)) (IsAscii-from_digits rest h)
+    by false false e f h = IsAscii-from_digits (b ∷ rest) h
+
+pub numeral_text : (bytes : List ℕ) → is_numeral (without_leading_sign bytes) ≡ true → IsUtf8 bytes
+numeral_text [] n = IsUtf8-from_ascii [] (λ i. omega arith)
+numeral_text (b ∷ rest) n = IsUtf8-from_ascii (b ∷ rest) (front_ascii b rest (numeral (without_leading_sign (b ∷ rest)) n).1)
+
+is_numeral-back : (ds : List ℕ) → IsNumeral 10 ds → is_numeral ds ≡ true
+is_numeral-back ds own = let some : nat_lt 0 (length ds) ≡ true = grind (arith, nat_tests, own.0) in rw (some, digits_back ds own.1) refl
+
+-- digits have no sign before them
+no_sign : (ds : List ℕ) → IsNumeral 10 ds → (without_leading_sign ds ≡ ds) × (starts_with_minus ds ≡ false)
+no_sign [] own = absurd (omega (arith, own.0))
+no_sign (d ∷ ds) own =
+    let digit = digit_back d own.1.0 in
+    let no_minus : (d == 45) ≡ false = grind (arith, nat_tests) in
+    let no_plus : (d == 43) ≡ false = grind (arith, nat_tests) in
+    (rw (no_minus, no_plus) refl, no_minus)
+
+-- what a whole number of i64 shows reads as that number
+pub ints_read_back : (z : ℤ) → is_i64 z ≡ true → int_cell (shown_int z) ≡ Ok z
+ints_read_back (pos n) small =
+    let own = decimal_is_IsNumeral n (grind (arith, nat_tests)) in
+    let bare = no_sign (decimal n) own.0 in
+    rw (bare.0, bare.1, is_numeral-back (decimal n) own.0, own.1, small) refl
+ints_read_back (negsuc n) small =
+    let own = decimal_is_IsNumeral (suc n) (grind (arith, nat_tests)) in
+    rw (is_numeral-back (decimal (suc n)) own.0, own.1, small) refl

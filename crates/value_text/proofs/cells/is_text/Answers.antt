@@ -1,0 +1,17 @@
+use Rattle.std.proofs.Common.{◌≡◌, Bool, true, false, List, ℕ, refl, sym, IsUtf8}
+use Rattle.std.specs.Str.{is_utf8}
+use Rattle.std.proofs.lemmas.Str.{IsUtf8-from_is_utf8, is_utf8-from_IsUtf8}
+use Rattle.value_text.proofs.cells.is_text.Goals as goal
+
+not_text : (bytes : List ℕ) → (IsUtf8 bytes → ⊥) → false ≡ is_utf8 bytes
+not_text bytes h = by (is_utf8 bytes) refl
+  where
+    by : (b : Bool) → is_utf8 bytes ≡ b → false ≡ is_utf8 bytes
+    by true e = absurd (h (IsUtf8-from_is_utf8 bytes e))
+    by false e = sym e
+
+pub returns-in-Ok : goal.returns-in-Ok
+returns-in-Ok c = sym (is_utf8-from_IsUtf8 c.args.bytes.now c.in-Ok.ensures.cases.1)
+
+pub returns-in-Err : goal.returns-in-Err
+returns-in-Err c = not_text c.args.bytes.now c.in-Err.ensures.cases.0

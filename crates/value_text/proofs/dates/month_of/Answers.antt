@@ -1,0 +1,8 @@
+use Rattle.value_text.proofs.Days.{month_digits}
+use Rattle.value_text.proofs.dates.month_of.Goals as goal
+
+pub two_digits-requires-clause-first : goal.two_digits-requires-clause-first
+two_digits-requires-clause-first c = (month_digits c.args.text.now c.requires).0
+
+pub two_digits-requires-clause-second : goal.two_digits-requires-clause-second
+two_digits-requires-clause-second c = (month_digits c.args.text.now c.requires).1

@@ -1,0 +1,135 @@
+//! What cells say.
+ghost use Rattle.std.specs.Prelude.{◌≡◌, ◌≤◌, ◌+◌, ◌<◌, ◌-◌, ◌^◌, IfOk, OnErr, length};
+ghost use Rattle.std.specs.Char.{is_ascii_digit};
+ghost use Rattle.std.specs.List.{list_all};
+ghost use Rattle.std.specs.Str.{is_utf8};
+ghost use Rattle.std.specs.Str.Parse.{without_leading_sign};
+ghost use Rattle.value_text.specs.Cells.{Gives, bool_cell, cell_value};
+ghost use Rattle.value_text.specs.Numbers.{int_cell, is_numeral};
+ghost use Rattle.value_text.specs.Texts.{Kept};
+ghost use Rattle.value_text.specs.Valid.{IsValid};
+
+use crate::dates::read_date;
+use crate::texts::Texts;
+use adfs_base::{Kind, Value};
+use std::str;
+
+/// Why a cell isn't accepted.
+#[derive(Clone, Copy, Debug, PartialEq, Eq)]
+pub enum CellFault {
+    /// It isn't a sign or none and then decimal digits, at least one.
+    BadInt,
+    /// It has that form, and the number is outside i64.
+    WideInt,
+    /// It is neither `true` nor `false`, whatever the case of the letters.
+    BadBool,
+    /// It isn't ten bytes `DDDD-DD-DD` that name a civil date.
+    BadDate,
+    /// It isn't UTF-8.
+    BadText,
+    /// Its record has another number of cells than the header. No call of this crate gives it.
+    WrongCount,
+    /// Memory ran out.
+    NoMemory,
+}
+
+// What stands behind a sign, if there is one.
+fn unsigned_part(cell: &[u8]) -> &[u8]
+    ensures { result.now ≡ without_leading_sign cell.now }
+{
+    match cell.first() {
+        Some(b'+' | b'-') => &cell[1..],
+        _ => cell,
+    }
+}
+
+fn all_digits(digits: &[u8]) -> bool
+    ensures { result ≡ list_all is_ascii_digit digits.now }
+{
+    digits.iter().all(|b| b.is_ascii_digit())
+}
+
+// Whether the bytes are one decimal digit or more.
+fn has_digits(digits: &[u8]) -> bool
+    ensures { result ≡ is_numeral digits.now }
+{
+    !digits.is_empty() && all_digits(digits)
+}
+
+/// The number of a cell that has to hold one, as those of `id`, `source` and `target` do: the empty cell
+/// is `BadInt`.
+///
+/// The form is an optional `+` or `-`, then one decimal digit or more. It is tested before the range, so
+/// `BadInt` comes exactly where the form is wrong, and `WideInt` exactly where it is right and the number
+/// is outside i64. It takes no memory.
+pub fn read_key(cell: &[u8]) -> Result<i64, CellFault>
+    ensures { result ≡ int_cell cell.now }
+{
+    if !has_digits(unsigned_part(cell)) {
+        return Err(CellFault::BadInt);
+    }
+    match str::from_utf8(cell) {
+        Ok(text) => match text.parse::<i64>() {
+            Ok(number) => Ok(number),
+            Err(_) => Err(CellFault::WideInt),
+        },
+        Err(_) => Err(CellFault::BadInt),
+    }
+}
+
+// A truth value.
+fn read_bool(cell: &[u8]) -> Result<bool, CellFault>
+    ensures { result ≡ bool_cell cell.now }
+{
+    if cell.eq_ignore_ascii_case(b"true") {
+        return Ok(true);
+    }
+    if cell.eq_ignore_ascii_case(b"false") {
+        return Ok(false);
+    }
+    Err(CellFault::BadBool)
+}
+
+// Whether the bytes are UTF-8.
+fn is_text(bytes: &[u8]) -> bool
+    ensures { result ≡ is_utf8 bytes.now }
+{
+    match str::from_utf8(bytes) {
+        Ok(_) => true,
+        Err(_) => false,
+    }
+}
+
+/// What a cell of a kind says. The empty cell is null for any kind, and a text becomes one of `texts`.
+///
+/// Each fault comes exactly where `CellFault` says, for a cell of that kind that isn't empty. After any
+/// fault, `NoMemory` among them, the texts are as before. Only a text that is new takes memory.
+pub fn read_value(kind: Kind, cell: &[u8], texts: &mut Texts) -> Result<Value, CellFault>
+    requires { length texts.old < 2 ^ 32 - 1 }
+    ensures value { Gives result texts.new (cell_value kind cell.now texts.old) }
+    ensures valid { IfOk result (λ value. IsValid texts.new value) }
+    ensures err { OnErr result (texts.new ≡ texts.old) }
+    ensures kept { Kept texts.old texts.new }
+    ensures room { length texts.new ≤ length texts.old + 1 }
+{
+    if cell.is_empty() {
+        return Ok(Value::Null);
+    }
+    match kind {
+        Kind::Int => Ok(Value::Int(read_key(cell)?)),
+        Kind::Bool => Ok(Value::Bool(read_bool(cell)?)),
+        Kind::Date => match read_date(cell) {
+            Some(day) => Ok(Value::Date(day)),
+            None => Err(CellFault::BadDate),
+        },
+        Kind::Text => {
+            if !is_text(cell) {
+                return Err(CellFault::BadText);
+            }
+            match texts.add(cell) {
+                Ok(number) => Ok(Value::Text(number)),
+                Err(_) => Err(CellFault::NoMemory),
+            }
+        }
+    }
+}
