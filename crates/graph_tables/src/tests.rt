@@ -1,9 +1,9 @@
 // The worked rows and the exact forms of tables, as answers of `load_graph`.
 use super::*;
-use adfs_base::{Kind, MemStore, Name, NoMemory, Value};
+use adfs_base::{MemStore, Name, NoMemory, Value};
 use std::alloc::Global;
 use std::test::Fail;
-use value_text::{CellFault, Texts};
+use value_text::CellFault;
 
 type File<'a> = (&'a str, &'a str);
 
@@ -226,93 +226,6 @@ fn edges_with_faults(rt: HostRuntime) -> Result<(), Fail> {
         ];
         assert_eq!(rt; fault(alloc, &files)?, at(2, 7, column, kind), "{row}");
     }
-    Ok(())
-}
-
-fn is_town_schema(schema: &Schema) -> bool {
-    schema.vertex_property(b"name") == Some((0, Kind::Text))
-        && schema.vertex_property(b"born") == Some((1, Kind::Date))
-        && schema.vertex_property(b"since").is_none()
-        && schema.edge_property(b"since") == Some((0, Kind::Date))
-}
-
-// The text of a number, or an empty one.
-fn text(texts: &Texts, number: u32) -> &[u8] {
-    if number < texts.len() {
-        texts.get(number)
-    } else {
-        &[]
-    }
-}
-
-fn are_town_texts(texts: &Texts) -> bool {
-    texts.len() == 9
-        && text(texts, 0) == b"person".as_slice()
-        && text(texts, 3) == b"Cy, Jr".as_slice()
-        && text(texts, 4) == b"city".as_slice()
-        && text(texts, 8) == b"lives".as_slice()
-}
-
-fn are_town_vertices(graph: &Graph) -> bool {
-    graph.vertices() == 5
-        && graph.vertex(2) == (3, 0)
-        && graph.vertex(4) == (101, 4)
-        && graph.vertex_value(2, 0) == Value::Text(3)
-        && graph.vertex_value(2, 1) == Value::Null
-        && graph.vertex_value(0, 1) == Value::Date(7425)
-        && graph.vertex_value(3, 1) == Value::Null
-        && graph.vertex_of(101) == Some(4)
-        && graph.vertex_of(102).is_none()
-}
-
-fn are_town_edges(graph: &Graph) -> bool {
-    graph.edges() == 6
-        && graph.edge(2) == (12, 7, 0, 2)
-        && graph.edge(5) == (22, 8, 2, 4)
-        && graph.edge_value(1, 0) == Value::Null
-        && graph.edge_value(3, 0) == Value::Date(14610)
-        && graph.edge_value(5, 0) == Value::Null
-        && graph.edge_value(5, 77) == Value::Null
-}
-
-const TOWN: [(&str, &str); 5] = [
-    (
-        "graph.txt",
-        "adfs 1\nvertices person people.csv\nvertices city cities.csv\nedges knows knows.csv\nedges lives lives.csv\n",
-    ),
-    (
-        "people.csv",
-        "id:int,name:text,born:date\n1,Ann,1990-05-01\n2,Bob,1985-12-24\n3,\"Cy, Jr\",\n",
-    ),
-    ("cities.csv", "id:int,name:text\n100,Bern\n101,Oslo\n"),
-    (
-        "knows.csv",
-        "id:int,source:int,target:int\n10,1,2\n11,2,3\n12,1,3\n",
-    ),
-    (
-        "lives.csv",
-        "id:int,source:int,target:int,since:date\n20,1,100,2010-01-01\n21,2,100,2015-06-30\n22,3,101,\n",
-    ),
-];
-
-// Whether the graph of the town is read, with its schema and its texts.
-fn is_town(alloc: Global) -> Result<bool, NoMemory> {
-    let mut store = store(alloc, &TOWN)?;
-    Ok(match load_graph(alloc, &mut store, "graph.txt") {
-        Ok(mut graph) => {
-            let (schema, texts) = graph.detach();
-            is_town_schema(&schema)
-                && are_town_texts(&texts)
-                && are_town_vertices(&graph)
-                && are_town_edges(&graph)
-        }
-        Err(_) => false,
-    })
-}
-
-#[test]
-fn friends_in_one_town(rt: HostRuntime) -> Result<(), Fail> {
-    assert!(rt; is_town(rt.alloc())?);
     Ok(())
 }
 
