@@ -1,9 +1,9 @@
 // The worked rows and the exact forms of tables, as answers of `load_graph`.
 use super::*;
-use adfs_base::{MemStore, Name, NoMemory, Value};
+use adfs_base::{Kind, MemStore, Name, NoMemory, Value};
 use std::alloc::Global;
 use std::test::Fail;
-use value_text::CellFault;
+use value_text::{CellFault, Texts};
 
 type File<'a> = (&'a str, &'a str);
 
@@ -226,6 +226,124 @@ fn edges_with_faults(rt: HostRuntime) -> Result<(), Fail> {
         ];
         assert_eq!(rt; fault(alloc, &files)?, at(2, 7, column, kind), "{row}");
     }
+    Ok(())
+}
+
+const TOWN: [(&str, &str); 5] = [
+    (
+        "graph.txt",
+        "adfs 1\nvertices person people.csv\nvertices city cities.csv\nedges knows knows.csv\nedges lives lives.csv\n",
+    ),
+    (
+        "people.csv",
+        "id:int,name:text,born:date\n1,Ann,1990-05-01\n2,Bob,1985-12-24\n3,\"Cy, Jr\",\n",
+    ),
+    ("cities.csv", "id:int,name:text\n100,Bern\n101,Oslo\n"),
+    (
+        "knows.csv",
+        "id:int,source:int,target:int\n10,1,2\n11,2,3\n12,1,3\n",
+    ),
+    (
+        "lives.csv",
+        "id:int,source:int,target:int,since:date\n20,1,100,2010-01-01\n21,2,100,2015-06-30\n22,3,101,\n",
+    ),
+];
+
+fn has_town_schema(schema: &Schema) -> bool {
+    schema.vertex_property(b"name") == Some((0, Kind::Text))
+        && schema.vertex_property(b"born") == Some((1, Kind::Date))
+        && schema.vertex_property(b"since").is_none()
+        && schema.edge_property(b"since") == Some((0, Kind::Date))
+        && schema.edge_property(b"name").is_none()
+}
+
+fn has_town_texts(texts: &Texts) -> bool {
+    let shown: [&[u8]; 9] = [
+        b"person", b"Ann", b"Bob", b"Cy, Jr", b"city", b"Bern", b"Oslo", b"knows", b"lives",
+    ];
+    if texts.len() != 9 {
+        return false;
+    }
+    for number in 0..9 {
+        if texts.get(number) != shown[number as usize] {
+            return false;
+        }
+    }
+    true
+}
+
+// The key, the label, the name and the day of birth of each vertex.
+fn has_town_vertices(graph: &Graph) -> bool {
+    let vertices = [
+        (1, 0, Value::Text(1), Value::Date(7425)),
+        (2, 0, Value::Text(2), Value::Date(5836)),
+        (3, 0, Value::Text(3), Value::Null),
+        (100, 4, Value::Text(5), Value::Null),
+        (101, 4, Value::Text(6), Value::Null),
+    ];
+    if graph.vertices() != 5 {
+        return false;
+    }
+    for number in 0..5 {
+        let (key, label, name, born) = vertices[number as usize];
+        if graph.vertex(number) != (key, label)
+            || graph.vertex_value(number, 0) != name
+            || graph.vertex_value(number, 1) != born
+            || graph.vertex_of(key) != Some(number)
+        {
+            return false;
+        }
+    }
+    true
+}
+
+// The key, the label, the ends and the first day of each edge.
+fn has_town_edges(graph: &Graph) -> bool {
+    let edges = [
+        ((10, 7, 0, 1), Value::Null),
+        ((11, 7, 1, 2), Value::Null),
+        ((12, 7, 0, 2), Value::Null),
+        ((20, 8, 0, 3), Value::Date(14610)),
+        ((21, 8, 1, 3), Value::Date(16616)),
+        ((22, 8, 2, 4), Value::Null),
+    ];
+    if graph.edges() != 6 {
+        return false;
+    }
+    for number in 0..6 {
+        let (edge, since) = edges[number as usize];
+        if graph.edge(number) != edge || graph.edge_value(number, 0) != since {
+            return false;
+        }
+    }
+    true
+}
+
+// Whether the graph of the town is loaded with its vertices and edges.
+fn is_town(alloc: Global) -> Result<bool, NoMemory> {
+    let mut store = store(alloc, &TOWN)?;
+    match load_graph(alloc, &mut store, "graph.txt") {
+        Ok(graph) => Ok(has_town_vertices(&graph) && has_town_edges(&graph)),
+        Err(_) => Ok(false),
+    }
+}
+
+// Whether it is loaded with its schema and texts.
+fn is_town_schema(alloc: Global) -> Result<bool, NoMemory> {
+    let mut store = store(alloc, &TOWN)?;
+    match load_graph(alloc, &mut store, "graph.txt") {
+        Ok(mut graph) => {
+            let (schema, texts) = graph.detach();
+            Ok(has_town_schema(&schema) && has_town_texts(&texts))
+        }
+        Err(_) => Ok(false),
+    }
+}
+
+#[test]
+fn friends_in_one_town(rt: HostRuntime) -> Result<(), Fail> {
+    assert!(rt; is_town(rt.alloc())?);
+    assert!(rt; is_town_schema(rt.alloc())?);
     Ok(())
 }
 
