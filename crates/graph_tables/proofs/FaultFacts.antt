@@ -1,7 +1,7 @@
 -- Faults that are handed on.
 use Rattle.std.proofs.Common.{◌≡◌, ◌∙◌, sym, refl, arith, ℕ, ◌≤◌, Option, Some, None, MatchOption, Result, Ok, Err}
 use Rattle.adfs_base.specs.Counts.{Rose}
-use Rattle.graph_tables.specs.Faults.{◌>>=◌, GivesFault, HasCause, LoadsFault, fault_of}
+use Rattle.graph_tables.specs.Faults.{◌>>=◌, FailsAt, GivesFault, HasCause, LoadsFault, fault_of}
 use Rattle.graph_tables.specs.declared.faults.TableFault.{TableFault}
 use Rattle.graph_tables.specs.declared.faults.TableKind.{TableKind}
 use Rattle.graph_tables.specs.declared.faults.TableKind.TheVariants as kind
@@ -74,6 +74,13 @@ own_cause files faults faults_now misses misses_now e given a b h = record {
   failed = λ is. absurd (no_read_fault e e.kind given h is);
   missing = λ is. absurd (no_missing e e.kind given h is);
 }
+
+pub own_place : {Y : Type 0} (first last : ℕ) (e : TableFault) (given : Result Y TableFault) → GivesFault e e.kind given → FailsAt first last e
+own_place first last e given h = λ is. absurd (no_read_fault e e.kind given h is)
+
+-- a file of these is one of more
+pub place_among : (first last low high : ℕ) (e : TableFault) → low ≤ first → last ≤ high → FailsAt first last e → FailsAt low high e
+place_among first last low high e a b h = λ is. ((h is).0, omega (arith, (h is).1), omega (arith, (h is).2))
 
 pub no_cause : {F X : Type 0} (files : Option F) (faults faults_now misses misses_now : ℕ) (x : X) → faults ≤ faults_now → misses ≤ misses_now
     → HasCause files faults faults_now misses misses_now (Ok x)

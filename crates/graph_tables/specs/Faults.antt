@@ -62,3 +62,7 @@ pub record HasCause {X F : Type 0} (files : Option F) (faults faults_now misses 
   pub misses_stay : misses ≤ misses_now
   pub failed : IfErr result (λ e. e.kind ≡ kind.ReadFault → Rose faults faults_now)
   pub missing : IfErr result (λ e. e.kind ≡ kind.Missing → MatchOption files (Rose misses misses_now) (λ _. Unit {0}))
+
+-- The fault, if it is that of a load, is told of one of these files, as a whole.
+abbrev pub FailsAt : ℕ → ℕ → TableFault → Type 0
+FailsAt first last e = e.kind ≡ kind.ReadFault → (e ≡ fault_of e.file kind.ReadFault) × (first ≤ e.file) × (e.file ≤ last)

@@ -1,10 +1,10 @@
 //! Loading the files of a graph.
-ghost use Rattle.std.specs.Prelude.{◌≡◌, ◌<◌, ◌≤◌, ◌+◌, ◌-◌, ◌^◌, IfOk, IfSome, OnOk, length};
+ghost use Rattle.std.specs.Prelude.{◌≡◌, ◌<◌, ◌≤◌, ◌+◌, ◌-◌, ◌^◌, IfErr, IfOk, IfSome, OnOk, length};
 ghost use Rattle.adfs_base.specs.Files.{file_of};
 ghost use Rattle.csv.specs.Records.{fields_of};
 ghost use Rattle.csv_records.specs.Table.{records_of};
 ghost use Rattle.value_text.specs.Texts.{number_of};
-ghost use Rattle.graph_tables.specs.Faults.{Gives, HasCause, Loads};
+ghost use Rattle.graph_tables.specs.Faults.{FailsAt, Gives, HasCause, Loads};
 ghost use Rattle.graph_tables.specs.Graph.{IsWhole};
 ghost use Rattle.graph_tables.specs.Loaded.{added_up, begun, edges_begun, file_bytes, loaded, most_of_all, most_of_file, table_records, tables_from, tables_named, vertices_begun, with_table};
 ghost use Rattle.graph_tables.specs.Loading.{IsSound, filled_of, graph_of, properties_in, tables_in};
@@ -37,6 +37,7 @@ fn load_file<S: Store>(
     ensures gives { IfSome (S.files store.old) (λ files. Loads (λ _. bytes.new.items) result (file_bytes file (file_of name.now files))) }
     ensures short { OnOk result (length bytes.new.items ≤ most_of_file) }
     ensures cause { HasCause (S.files store.old) (S.faults store.old) (S.faults store.new) (S.misses store.old) (S.misses store.new) result }
+    ensures place { IfErr result (FailsAt file file) }
 {
     bytes.clear();
     match store.load(name, MOST_OF_FILE, bytes) {
@@ -197,6 +198,7 @@ fn load_table<S: Store>(
     ensures tables { OnOk result (tables_in loading.new ≡ tables_in loading.old + 1) }
     ensures properties { IfOk result (λ sum. properties_in loading.new + total ≤ properties_in loading.old + sum + 1) }
     ensures cause { HasCause (S.files store.old) (S.faults store.old) (S.faults store.new) (S.misses store.old) (S.misses store.new) result }
+    ensures place { IfErr result (FailsAt file file) }
 {
     load_file(store, table.file.text(), file, bytes)?;
     let sum = add_up(file, total, bytes)?;
@@ -220,6 +222,7 @@ fn load_tables<S: Store>(
     ensures gives { IfSome (S.files store.old) (λ files. Loads (λ sum. (sum, graph_of loading.new)) result (tables_from files 1 tables.now (0, graph_of loading.old))) }
     ensures sound { OnOk result (IsSound loading.new) }
     ensures cause { HasCause (S.files store.old) (S.faults store.old) (S.faults store.new) (S.misses store.old) (S.misses store.new) result }
+    ensures place { IfErr result (FailsAt 1 (length tables.now)) }
 {
     let mut total = 0;
     for i in 0..tables.len() {
@@ -240,6 +243,7 @@ fn load_manifest<S: Store>(
     ensures gives { IfSome (S.files store.old) (λ files. Loads (λ tables. tables.items) result (tables_named files name.now)) }
     ensures few { IfOk result (λ tables. length tables.items ≤ most_tables) }
     ensures cause { HasCause (S.files store.old) (S.faults store.old) (S.faults store.new) (S.misses store.old) (S.misses store.new) result }
+    ensures place { IfErr result (FailsAt 0 0) }
 {
     load_file(store, name, 0, bytes)?;
     let tables = manifest(alloc, bytes)?;
@@ -250,8 +254,8 @@ fn load_manifest<S: Store>(
 ///
 /// Where the store tells its files, the answer is exactly `loaded` of them: the graph, or the first fault
 /// in order of manifest line, record and column. A load that failed is answered only where the store's
-/// count of faults rose in this call, and a file that the store lacks, where its files aren't told, only
-/// where its count of misses did.
+/// count of faults rose in this call, and names the manifest or one of at most 256 tables. A file that the
+/// store lacks, where its files aren't told, is answered only where its count of misses rose.
 pub fn load_graph<S: Store>(
     alloc: Global,
     store: &mut S,
@@ -261,6 +265,7 @@ pub fn load_graph<S: Store>(
     ensures gives { IfSome (S.files store.old) (λ files. Loads (λ graph. graph) result (loaded files manifest.now)) }
     ensures whole { IfOk result IsWhole }
     ensures cause { HasCause (S.files store.old) (S.faults store.old) (S.faults store.new) (S.misses store.old) (S.misses store.new) result }
+    ensures place { IfErr result (FailsAt 0 most_tables) }
 {
     let mut bytes = Vec::new(alloc);
     let tables = load_manifest(alloc, store, manifest, &mut bytes)?;

@@ -3,7 +3,7 @@ use Rattle.std.proofs.lemmas.Result.{err_from_is_err_and}
 use Rattle.csv_records.specs.Table.{records_of}
 use Rattle.graph_tables.specs.Loaded.{added_up, table_records}
 use Rattle.graph_tables.specs.Loading.{graph_of}
-use Rattle.graph_tables.proofs.FaultFacts.{own_cause}
+use Rattle.graph_tables.proofs.FaultFacts.{own_cause, own_place}
 use Rattle.graph_tables.proofs.LoadFacts.{file_failed, records_failed, sum_failed, table_loaded}
 use Rattle.graph_tables.proofs.load.load_table.Goals as goal
 
@@ -41,3 +41,13 @@ pub returns-clause-gives : goal.returns-clause-gives
 returns-clause-gives g c =
     table_loaded (g.S.Store.files c.args.store.now) c.args.file c.args.total c.args.table.now (graph_of c.args.loading.now) c.load_file.new.bytes.items (rw c.text.ensures at c.in_ok-load_file.ensures.gives)
     c.in_ok-sum.sum (rw c.deref.ensures.value at c.in_ok-sum.ensures.sum) (graph_of c.take_table.new.loading) (rw c.deref-2.ensures.value at c.in_ok-take_table.ensures.gives)
+
+pub returns-in_err-sum-clause-place : goal.returns-in_err-sum-clause-place
+returns-in_err-sum-clause-place g c =
+    let p = err_from_is_err_and c.from_residual-in_err-sum.result c.from_residual-in_err-sum.ensures.1 in
+    rw (p.1, p.2) (own_place c.args.file c.args.file c.in_err-sum.field-0.0 (added_up c.args.file c.args.total c.deref.result.now) c.in_err-sum.ensures.sum)
+
+pub returns-in_err-take_table-clause-place : goal.returns-in_err-take_table-clause-place
+returns-in_err-take_table-clause-place g c =
+    let p = err_from_is_err_and c.from_residual-in_err-take_table.result c.from_residual-in_err-take_table.ensures.1 in
+    rw (p.1, p.2) (own_place c.args.file c.args.file c.in_err-take_table.field-0.0 (table_records c.args.file c.args.table.now (records_of c.deref-2.result.now) (graph_of c.args.loading.now)) c.in_err-take_table.ensures.gives)

@@ -3,7 +3,7 @@ use Rattle.std.proofs.lemmas.Option.{slice_get-get_or}
 use Rattle.std.proofs.lemmas.Result.{err_from_is_err_and}
 use Rattle.graph_tables.specs.Loaded.{tables_from}
 use Rattle.graph_tables.specs.Loading.{graph_of}
-use Rattle.graph_tables.proofs.FaultFacts.{cause_since}
+use Rattle.graph_tables.proofs.FaultFacts.{cause_since, place_among}
 use Rattle.graph_tables.proofs.LoadFacts.{tables_done, tables_failed, tables_kept}
 use Rattle.graph_tables.proofs.load.load_tables.Goals as goal
 
@@ -35,3 +35,8 @@ pub returns-clause-gives : goal.returns-clause-gives
 returns-clause-gives g c =
     tables_done (g.S.Store.files c.args.store.now) c.args.tables.now c.loop-i.i c.loop-i.total (graph_of c.loop-i.loading)
     (λ files. tables_from files 1 c.args.tables.now (0, graph_of c.args.loading.now)) (omega (arith, c.loop-i-test.false)) c.loop-i.invariant.rest
+
+pub returns-in_err-total-clause-place : goal.returns-in_err-total-clause-place
+returns-in_err-total-clause-place g c =
+    let p = err_from_is_err_and c.from_residual.result c.from_residual.ensures.1 in
+    rw (p.1, p.2) (place_among (c.loop-i.i + 1) (c.loop-i.i + 1) 1 (length c.args.tables.now) c.in_err-total.field-0.0 (omega arith) (omega (arith, c.loop-i-test.true)) c.in_err-total.ensures.place)
