@@ -5,11 +5,17 @@ use Rattle.adfs_base.specs.Files.{Files, file_of}
 use Rattle.graph_tables.specs.Graph.{PropertyGraph}
 use Rattle.graph_tables.specs.Loaded.{loaded}
 use Rattle.adfs_top.specs.Answer.{answer_of}
-use Rattle.adfs_top.specs.Causes.{PartGives, StoreCause}
-use Rattle.adfs_top.specs.Faults.{with_status}
+use Rattle.adfs_top.specs.Causes.{FailsAt, PartGives, StoreCause}
+use Rattle.adfs_top.specs.Faults.{status_of_cell, status_of_fault, status_of_kind, with_status}
 use Rattle.adfs_top.specs.Outcome.{◌>>~◌, query_in, text_of_files}
 use Rattle.adfs_top.specs.Query.{first_query}
 use Rattle.adfs_top.specs.Text.{reply_text}
+use Rattle.graph_tables.specs.Faults as tables
+use Rattle.graph_tables.specs.declared.faults.TableFault.{TableFault}
+use Rattle.graph_tables.specs.declared.faults.TableKind.{TableKind}
+use Rattle.graph_tables.specs.declared.faults.TableKind.TheVariants as kind
+use Rattle.value_text.specs.declared.cells.CellFault.{CellFault}
+use Rattle.value_text.specs.declared.cells.CellFault.TheVariants as cell
 use Rattle.adfs_top.specs.declared.status.Status.{Status}
 use Rattle.adfs_top.specs.declared.status.Status.TheVariants.{Missing, ReadFault}
 
@@ -56,3 +62,38 @@ cause_earlier (Ok x) files left faults faults_middle faults_now misses misses_mi
 cause_earlier (Err status) files left faults faults_middle faults_now misses misses_middle misses_now kept more_faults more_misses cause =
     StoreCause-earlier status files faults faults_middle faults_now misses misses_middle misses_now more_faults more_misses
     (subst (λ f. StoreCause status f faults_middle faults_now misses_middle misses_now) kept cause)
+
+-- a cell's fault is no read fault
+place_of_cell : (first last : ℕ) (e : TableFault) (f : CellFault) → FailsAt first last (status_of_cell e f)
+place_of_cell first last e cell.BadInt = tt
+place_of_cell first last e cell.WideInt = tt
+place_of_cell first last e cell.BadBool = tt
+place_of_cell first last e cell.BadDate = tt
+place_of_cell first last e cell.BadText = tt
+place_of_cell first last e cell.WrongCount = tt
+place_of_cell first last e cell.NoMemory = tt
+
+-- the status of a load that failed names its file
+place_of_kind : (first last : ℕ) (e : TableFault) (k : TableKind) → (k ≡ kind.ReadFault → (first ≤ e.file) × (e.file ≤ last)) → FailsAt first last (status_of_kind e k)
+place_of_kind first last e kind.ReadFault h = h refl
+place_of_kind first last e (kind.BadCell f) h = place_of_cell first last e f
+place_of_kind first last e kind.BadManifest h = tt
+place_of_kind first last e kind.BadHeader h = tt
+place_of_kind first last e kind.DoubleKey h = tt
+place_of_kind first last e kind.NoSuchVertex h = tt
+place_of_kind first last e kind.TooLong h = tt
+place_of_kind first last e (kind.TooMany q) h = tt
+place_of_kind first last e kind.Missing h = tt
+place_of_kind first last e kind.NoMemory h = tt
+
+pub place_of_fault : (first last : ℕ) (e : TableFault) → tables.FailsAt first last e → FailsAt first last (status_of_fault e)
+place_of_fault first last e h = place_of_kind first last e e.kind (λ is. ((h is).1, (h is).2))
+
+-- a file of these is one of more
+pub place_among : (first last low high : ℕ) (status : Status) → low ≤ first → last ≤ high → FailsAt first last status → FailsAt low high status
+place_among first last low high (ReadFault file) a b h = (omega (arith, h.0), omega (arith, h.1))
+place_among first last low high status a b h = tt
+
+pub place_in : {X : Type 0} (first last low high : ℕ) (result : Result X Status) → low ≤ first → last ≤ high → IfErr result (FailsAt first last) → IfErr result (FailsAt low high)
+place_in first last low high (Ok x) a b h = tt
+place_in first last low high (Err status) a b h = place_among first last low high status a b h

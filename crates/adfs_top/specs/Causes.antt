@@ -1,5 +1,5 @@
 -- When each status comes, and what was put by then.
-use Rattle.std.specs.Prelude.{◌≡◌, ℕ, List, Option, Result, Ok, Err, MatchOption}
+use Rattle.std.specs.Prelude.{◌≡◌, ◌≤◌, ℕ, List, Option, Result, Ok, Err, MatchOption}
 use Rattle.adfs_base.specs.Counts.{Rose}
 use Rattle.adfs_base.specs.Bytes.{took, TookFront}
 use Rattle.adfs_top.specs.declared.status.Status.{Status}
@@ -24,6 +24,11 @@ abbrev pub StoreCause : {F : Type 0} → Status → Option F → ℕ → ℕ →
 StoreCause (ReadFault file) files faults faults_now misses misses_now = Rose faults faults_now
 StoreCause (Missing file) files faults faults_now misses misses_now = MatchOption files (Rose misses misses_now) (λ _. Unit {0})
 StoreCause status files faults faults_now misses misses_now = Unit {0}
+
+-- A read fault names one of these files.
+abbrev pub FailsAt : ℕ → ℕ → Status → Type 0
+FailsAt first last (ReadFault file) = (first ≤ file) × (file ≤ last)
+FailsAt first last status = Unit {0}
 
 -- What a part of the run between the words and the writing gives, against its definition.
 abbrev pub PartGives : {X Y : Type 0} → (X → Y) → Result X Status → Result Y Status → Type 0

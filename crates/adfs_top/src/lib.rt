@@ -8,7 +8,8 @@
 //! Where the store tells its files and the sink its bytes, the call puts exactly that text on `Done`, a
 //! front of it on `WriteFault`, and nothing else on any other status. A status comes for no other cause
 //! than its own: `Usage`, `TableFault`, `Missing`, `Limit` and `NotBuilt` exactly by `outcome`, a read or write fault only where the
-//! store's or the sink's count of faults rose in the call. Want of memory alone may come at any time.
+//! store's or the sink's count of faults rose in the call. A read fault names the manifest, a table or the query
+//! file. Want of memory alone may come at any time.
 //!
 //! So far the program answers one query, over any graph.
 #![tactic(auto)]

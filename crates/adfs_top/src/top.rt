@@ -4,7 +4,7 @@ ghost use Rattle.adfs_base.specs.Counts.{Rose};
 ghost use Rattle.adfs_base.specs.Files.{file_of};
 ghost use Rattle.graph_tables.specs.Loaded.{loaded};
 ghost use Rattle.adfs_top.specs.Answer.{answer_of};
-ghost use Rattle.adfs_top.specs.Causes.{IsOfFiles, PartGives, Puts, PutsNothing, StoreCause};
+ghost use Rattle.adfs_top.specs.Causes.{FailsAt, IsOfFiles, PartGives, Puts, PutsNothing, StoreCause};
 ghost use Rattle.adfs_top.specs.Faults.{with_status};
 ghost use Rattle.adfs_top.specs.Outcome.{◌>>~◌, outcome, query_in, text_of_files};
 ghost use Rattle.adfs_top.specs.Query.{first_query};
@@ -27,6 +27,7 @@ fn load_tables<S: Store>(alloc: Global, store: &mut S, manifest: &str) -> Result
     ensures misses { S.misses store.old ≤ S.misses store.new }
     ensures cause { IfErr result (λ status. StoreCause status (S.files store.old) (S.faults store.old) (S.faults store.new) (S.misses store.old) (S.misses store.new)) }
     ensures status { IfErr result IsOfFiles }
+    ensures place { IfErr result (FailsAt 0 256) }
 {
     match load_graph(alloc, store, manifest) {
         Ok(graph) => Ok(graph),
@@ -44,6 +45,7 @@ fn load_query<S: Store>(alloc: Global, store: &mut S, queries: &str) -> Result<V
     ensures misses { S.misses store.old ≤ S.misses store.new }
     ensures cause { IfErr result (λ status. StoreCause status (S.files store.old) (S.faults store.old) (S.faults store.new) (S.misses store.old) (S.misses store.new)) }
     ensures status { IfErr result IsOfFiles }
+    ensures place { IfErr result (FailsAt 257 257) }
 {
     let mut text = Vec::new(alloc);
     match store.load(queries, MOST_BYTES, &mut text) {
@@ -75,6 +77,7 @@ fn answer_text<S: Store>(
     ensures misses { S.misses store.old ≤ S.misses store.new }
     ensures cause { IfErr result (λ status. StoreCause status (S.files store.old) (S.faults store.old) (S.faults store.new) (S.misses store.old) (S.misses store.new)) }
     ensures status { IfErr result IsOfFiles }
+    ensures place { IfErr result (FailsAt 257 257) }
 {
     load_query(alloc, store, queries)?;
     match text_of(alloc, graph) {
@@ -94,6 +97,7 @@ fn run_text<S: Store>(
     ensures misses { S.misses store.old ≤ S.misses store.new }
     ensures cause { IfErr result (λ status. StoreCause status (S.files store.old) (S.faults store.old) (S.faults store.new) (S.misses store.old) (S.misses store.new)) }
     ensures status { IfErr result IsOfFiles }
+    ensures place { IfErr result (FailsAt 0 257) }
 {
     let graph = load_tables(alloc, store, manifest)?;
     answer_text(alloc, store, &graph, queries)
@@ -117,6 +121,8 @@ pub fn adfs_run_serial<S: Store, O: Sink>(
     // Faults come only where they were counted in this call.
     ensures store { StoreCause result (S.files store.old) (S.faults store.old) (S.faults store.new) (S.misses store.old) (S.misses store.new) }
     ensures write { result ≡ Status.WriteFault → Rose (O.faults out.old) (O.faults out.new) }
+    // A read fault names the manifest, a table or the query file.
+    ensures place { FailsAt 0 257 result }
 {
     match options(words) {
         Err(word) => Status::Usage { word },
