@@ -12,6 +12,23 @@ fn load_by<S: Store>(store: &mut S, name: &str, most: u64, into: &mut Vec<u8>) -
 }
 
 #[test]
+fn a_file_of_many_pieces_is_read_to_its_end(rt: HostRuntime) -> Result<(), Fail> {
+    let alloc = rt.alloc();
+    let mut store = FileStore::new(rt.clone()?);
+    let mut into = Vec::new(alloc);
+    let long = vec![in alloc; b'x'; 40_000]?;
+    fs::write(&rt, "long.txt", long.as_slice())?;
+    for (most, len) in [(40_000, 40_000), (39_999, 40_000), (20_000, 20_001)] {
+        assert_eq!(rt;
+            load_by(&mut store, "long.txt", most, &mut into),
+            Loaded::Whole
+        );
+        assert_eq!(rt; into.len(), len);
+    }
+    Ok(())
+}
+
+#[test]
 fn a_file_is_read_to_its_end_or_until_it_is_too_long(rt: HostRuntime) -> Result<(), Fail> {
     let mut store = FileStore::new(rt.clone()?);
     let mut into = Vec::new(rt.alloc());
@@ -35,10 +52,11 @@ fn a_file_is_read_to_its_end_or_until_it_is_too_long(rt: HostRuntime) -> Result<
     Ok(())
 }
 
-// A writer with room for a few bytes.
+// A writer with room for a few bytes, which may fail to flush.
 #[derive(Drop)]
 struct Small {
     room: usize,
+    flushes: bool,
 }
 
 impl Write for Small {
@@ -49,7 +67,11 @@ impl Write for Small {
     }
 
     fn flush(&mut self) -> io::Result<()> {
-        Ok(())
+        if self.flushes {
+            Ok(())
+        } else {
+            Err(io::Error::from(io::ErrorKind::BrokenPipe))
+        }
     }
 }
 
@@ -59,7 +81,19 @@ fn put_by<O: Sink>(sink: &mut O, bytes: &[u8]) -> Put {
 
 #[test]
 fn a_stream_that_takes_no_more_is_a_fault(rt: HostRuntime) {
-    let mut sink = StreamSink::new(Small { room: 4 });
+    let mut sink = StreamSink::new(Small {
+        room: 4,
+        flushes: true,
+    });
     assert_eq!(rt; put_by(&mut sink, b"abc"), Put::All);
     assert_eq!(rt; put_by(&mut sink, b"de"), Put::Failed);
+}
+
+#[test]
+fn a_piece_that_is_not_flushed_is_a_fault(rt: HostRuntime) {
+    let mut sink = StreamSink::new(Small {
+        room: 4,
+        flushes: false,
+    });
+    assert_eq!(rt; put_by(&mut sink, b"abc"), Put::Failed);
 }
