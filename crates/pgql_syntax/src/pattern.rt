@@ -1,0 +1,250 @@
+//! Patterns: vertices, edges and paths.
+
+ghost use Rattle.std.specs.Prelude.{◌≡◌};
+ghost use Rattle.pgql_syntax.specs.Grammar as grammar;
+ghost use Rattle.pgql_syntax.specs.Lists.{perhaps, separated, many, begins_with};
+ghost use Rattle.pgql_syntax.specs.Patterns as spec;
+ghost use Rattle.pgql_syntax.specs.Reads.{Reads};
+ghost use Rattle.pgql_syntax.specs.declared.kind.Kind.TheVariants as kind;
+
+use crate::input::{Input, Stop};
+use crate::kind::Kind;
+use crate::leaf::placed;
+use crate::part::{Part, list};
+use adfs_base::Name;
+use pgql_tree::{EdgePat, Path, Placed, VertexPat};
+use sqlite_items::Items;
+use std::alloc::Global;
+
+/// What stands inside a vertex or edge pattern.
+#[derive(Drop)]
+pub struct Spec {
+    pub name: Option<Placed>,
+    pub labels: Items<Name>,
+}
+
+/// `Name`
+#[tactic(auto, unfolding(crate::specs::Patterns::read_placed))]
+pub fn name(alloc: Global, input: &mut Input<'_, '_>) -> Result<Placed, Stop>
+    ensures { Reads (spec.read_placed input.old) result input.new }
+{
+    let t = input.expect(Kind::Name)?;
+    Ok(placed(alloc, &t)?)
+}
+
+/// A word, as a label.
+impl Part for Name {
+    ghost reading = { spec.read_label };
+
+    #[tactic(auto, unfolding(crate::specs::Patterns::read_label))]
+    fn read(alloc: Global, input: &mut Input<'_, '_>) -> Result<Name, Stop> {
+        let t = input.expect_word()?;
+        Ok(t.name(alloc)?)
+    }
+}
+
+/// `[":" Name {"|" Name}]`
+#[tactic(auto, using(crate::proofs::Paths::label_shrinks), unfolding(crate::specs::Patterns::read_labels))]
+fn labels(alloc: Global, input: &mut Input<'_, '_>) -> Result<Items<Name>, Stop>
+    ensures { Reads (spec.read_labels input.old) result input.new }
+{
+    if input.sees(Kind::Colon) {
+        input.take()?;
+        list(alloc, input, Kind::Bar)
+    } else {
+        Ok(Items::new(alloc))
+    }
+}
+
+/// `[Name]`
+fn name_or_none(alloc: Global, input: &mut Input<'_, '_>) -> Result<Option<Placed>, Stop>
+    ensures { Reads (perhaps spec.read_placed kind.Name input.old) result input.new }
+{
+    if input.sees(Kind::Name) {
+        Ok(Some(name(alloc, input)?))
+    } else {
+        Ok(None)
+    }
+}
+
+/// `[Name] [":" Name {"|" Name}]`
+#[tactic(auto, unfolding(crate::specs::Patterns::read_spec))]
+fn inside(alloc: Global, input: &mut Input<'_, '_>) -> Result<Spec, Stop>
+    ensures { Reads (spec.read_spec input.old) result input.new }
+{
+    let name = name_or_none(alloc, input)?;
+    let labels = labels(alloc, input)?;
+    Ok(Spec { name, labels })
+}
+
+/// `Spec` between two such tokens, with the place of the first.
+#[tactic(auto, unfolding(crate::specs::Patterns::read_enclosed))]
+fn enclosed(
+    alloc: Global,
+    input: &mut Input<'_, '_>,
+    opens: Kind,
+    closes: Kind,
+) -> Result<(Spec, u32), Stop>
+    ensures { Reads (spec.read_enclosed opens closes input.old) result input.new }
+{
+    let first = input.expect(opens)?;
+    let inside = inside(alloc, input)?;
+    input.expect(closes)?;
+    Ok((inside, first.at()))
+}
+
+/// `"(" Spec ")"`
+#[tactic(auto, unfolding(crate::specs::Patterns::read_vertex))]
+fn vertex(alloc: Global, input: &mut Input<'_, '_>) -> Result<VertexPat, Stop>
+    ensures { Reads (spec.read_vertex input.old) result input.new }
+{
+    let (inside, at) = enclosed(alloc, input, Kind::Open, Kind::Close)?;
+    Ok(VertexPat {
+        name: inside.name,
+        labels: inside.labels,
+        at,
+    })
+}
+
+fn edge_of(out: bool, inside: Spec, at: u32) -> EdgePat
+    ensures { result ≡ grammar.edge_of out inside at }
+{
+    EdgePat {
+        name: inside.name,
+        labels: inside.labels,
+        out,
+        at,
+    }
+}
+
+/// An edge without name and labels.
+fn arrow(alloc: Global, out: bool, at: u32) -> EdgePat
+    ensures { result ≡ grammar.arrow out at }
+{
+    EdgePat {
+        name: None,
+        labels: Items::new(alloc),
+        out,
+        at,
+    }
+}
+
+/// `"[" Spec "]" "-" ">"`
+#[tactic(auto, unfolding(crate::specs::Patterns::read_out))]
+fn edge_out(alloc: Global, input: &mut Input<'_, '_>, at: u32) -> Result<EdgePat, Stop>
+    ensures { Reads (spec.read_out at input.old) result input.new }
+{
+    let (inside, _) = enclosed(alloc, input, Kind::OpenBracket, Kind::CloseBracket)?;
+    input.expect(Kind::Minus)?;
+    input.expect(Kind::Greater)?;
+    Ok(edge_of(true, inside, at))
+}
+
+/// What stands behind the minus of an edge that leads out.
+fn after_minus(alloc: Global, input: &mut Input<'_, '_>, at: u32) -> Result<EdgePat, Stop>
+    ensures { Reads (spec.after_minus at input.old) result input.new }
+{
+    let Some(t) = input.first() else {
+        return Err(Stop::Unexpected);
+    };
+    match t.kind() {
+        Kind::Greater => {
+            input.take()?;
+            Ok(arrow(alloc, true, at))
+        }
+        Kind::OpenBracket => edge_out(alloc, input, at),
+        _ => Err(Stop::Unexpected),
+    }
+}
+
+/// `"[" Spec "]" "-"`
+#[tactic(auto, unfolding(crate::specs::Patterns::read_in))]
+fn edge_in(alloc: Global, input: &mut Input<'_, '_>, at: u32) -> Result<EdgePat, Stop>
+    ensures { Reads (spec.read_in at input.old) result input.new }
+{
+    let (inside, _) = enclosed(alloc, input, Kind::OpenBracket, Kind::CloseBracket)?;
+    input.expect(Kind::Minus)?;
+    Ok(edge_of(false, inside, at))
+}
+
+/// What stands behind the `<-` of an edge that leads in.
+fn after_less(alloc: Global, input: &mut Input<'_, '_>, at: u32) -> Result<EdgePat, Stop>
+    ensures { Reads (spec.after_less at input.old) result input.new }
+{
+    let Some(t) = input.first() else {
+        return Ok(arrow(alloc, false, at));
+    };
+    match t.kind() {
+        Kind::OpenBracket => edge_in(alloc, input, at),
+        _ => Ok(arrow(alloc, false, at)),
+    }
+}
+
+/// `"-" ">" | "<" "-" | "-" "[" Spec "]" "-" ">" | "<" "-" "[" Spec "]" "-"`
+#[tactic(auto, unfolding(crate::specs::Patterns::read_edge))]
+fn edge(alloc: Global, input: &mut Input<'_, '_>) -> Result<EdgePat, Stop>
+    ensures { Reads (spec.read_edge input.old) result input.new }
+{
+    let Some(t) = input.first() else {
+        return Err(Stop::Unexpected);
+    };
+    match t.kind() {
+        Kind::Minus => {
+            input.take()?;
+            after_minus(alloc, input, t.at())
+        }
+        Kind::Less => {
+            input.take()?;
+            input.expect(Kind::Minus)?;
+            after_less(alloc, input, t.at())
+        }
+        _ => Err(Stop::Unexpected),
+    }
+}
+
+/// `Edge Vertex`
+#[tactic(auto, unfolding(crate::specs::Patterns::read_step))]
+fn step(alloc: Global, input: &mut Input<'_, '_>) -> Result<(EdgePat, VertexPat), Stop>
+    ensures { Reads (spec.read_step input.old) result input.new }
+{
+    let edge = edge(alloc, input)?;
+    let vertex = vertex(alloc, input)?;
+    Ok((edge, vertex))
+}
+
+/// Whether an edge pattern begins with the next token.
+fn sees_edge(input: &Input<'_, '_>) -> bool
+    ensures { result ≡ begins_with spec.begins_edge input.now }
+{
+    match input.first() {
+        None => false,
+        Some(t) => match t.kind() {
+            Kind::Minus | Kind::Less => true,
+            _ => false,
+        },
+    }
+}
+
+/// `{Edge Vertex}`
+fn steps(alloc: Global, input: &mut Input<'_, '_>) -> Result<Items<(EdgePat, VertexPat)>, Stop>
+    ensures { Reads (many spec.read_step spec.begins_edge input.old) result input.new }
+{
+    let mut found = Items::new(alloc);
+    'steps: while sees_edge(input) {
+        let x = step(alloc, input)?;
+        found.push(x)?;
+    }
+    Ok(found)
+}
+
+/// `Vertex {Edge Vertex}`
+impl Part for Path {
+    ghost reading = { spec.read_path };
+
+    #[tactic(auto, unfolding(crate::specs::Patterns::read_path))]
+    fn read(alloc: Global, input: &mut Input<'_, '_>) -> Result<Path, Stop> {
+        let first = vertex(alloc, input)?;
+        let steps = steps(alloc, input)?;
+        Ok(Path { first, steps })
+    }
+}

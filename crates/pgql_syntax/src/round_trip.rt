@@ -1,0 +1,10 @@
+//! What printing and parsing are to each other.
+
+ghost use Rattle.pgql_syntax.specs.RoundTrip.{IsReadBack};
+
+/// What `print` writes of the tree of a text is read back as the same tree, apart from places.
+///
+/// A law; there is nothing to call it for.
+pub fn printed_is_read_back()
+    ensures { IsReadBack 64 }
+{}

@@ -1,0 +1,4 @@
+pub mod Levels
+pub mod Same
+pub mod Literals
+pub mod AllPlaces
