@@ -1,0 +1,98 @@
+-- Lists that are read from the front, and one more item each time.
+use Rattle.std.proofs.Common.{◌≡◌, ◌≤◌, ◌<◌, ℕ, zero, suc, ◌+◌, ◌-◌, Bool, true, false, if◌then◌else◌, List, [], ◌∷◌, ◌++◌, take, drop, length, map, get_or, Option, Some, None, refl, sym, ap, subst, ◌∙◌, append_assoc, arith}
+use Rattle.std.specs.Prelude.{flat_map, filter, slice_set, position, nat_lt}
+use Rattle.std.specs.List.{range_with_len, position_or_len, prefix_len}
+use Rattle.std.specs.Prelude.{fold, min, not, ◌^◌}
+use Rattle.std.proofs.lemmas.List.{append-nil, length-append}
+use Rattle.std.proofs.lemmas.List.Sums.{fold-append, prefix_len-le-length}
+use Rattle.std.proofs.lemmas.Bool.Decides.{nat_tests}
+use Rattle.typed_expr.specs.Joined.{merged, moved}
+
+drop-front : {X : Type 0} (xs : List X) (i : ℕ) (d : X) → i < length xs → drop i xs ≡ get_or xs i d ∷ drop (i + 1) xs
+drop-front [] i d below = absurd (omega arith)
+drop-front (x ∷ xs) zero d below = refl
+drop-front (x ∷ xs) (suc i) d below =
+    drop-front xs i d (omega arith) ∙ ap (λ n. get_or xs i d ∷ drop n (x ∷ xs)) (let same : suc (i + 1) ≡ suc i + 1 = omega arith in same)
+
+-- what a function makes of the items from here on, where this was made of those before
+pub flat_map-step : {X Y : Type 0} (f : X → List Y) (whole made more : List Y) (xs : List X) (i : ℕ) (d : X) → i < length xs
+    → made ++ flat_map f (drop i xs) ≡ whole → more ≡ made ++ f (get_or xs i d) → more ++ flat_map f (drop (i + 1) xs) ≡ whole
+flat_map-step f whole made more xs i d below so_far is =
+    ap (λ m. m ++ flat_map f (drop (i + 1) xs)) is
+    ∙ append_assoc made (f (get_or xs i d)) (flat_map f (drop (i + 1) xs))
+    ∙ ap (λ rest. made ++ flat_map f rest) (sym (drop-front xs i d below))
+    ∙ so_far
+
+pub map-step : {X Y : Type 0} (f : X → Y) (whole made more : List Y) (xs : List X) (i : ℕ) (d : X) → i < length xs
+    → made ++ map f (drop i xs) ≡ whole → more ≡ made ++ f (get_or xs i d) ∷ [] → more ++ map f (drop (i + 1) xs) ≡ whole
+map-step f whole made more xs i d below so_far is =
+    ap (λ m. m ++ map f (drop (i + 1) xs)) is
+    ∙ append_assoc made (f (get_or xs i d) ∷ []) (map f (drop (i + 1) xs))
+    ∙ ap (λ rest. made ++ map f rest) (sym (drop-front xs i d below))
+    ∙ so_far
+
+-- a group is moved, after those before it
+pub merged-step : (from to : ℕ) (old : List ℕ) (i : ℕ) (now : List ℕ) → i < length old → now ≡ take i (merged from to old) ++ drop i old
+    → slice_set now i (moved from to (get_or now i 0)) ≡ take (i + 1) (merged from to old) ++ drop (i + 1) old
+merged-step from to [] i now below is = absurd (omega arith)
+merged-step from to (group ∷ old) zero now below is = ap (λ n. slice_set n 0 (moved from to (get_or n 0 0))) is
+merged-step from to (group ∷ old) (suc i) now below is =
+    ap (λ n. slice_set n (suc i) (moved from to (get_or n (suc i) 0))) is
+    ∙ ap (λ rest. moved from to group ∷ rest) (merged-step from to old i (take i (merged from to old) ++ drop i old) (omega arith) refl)
+    ∙ ap (λ n. take n (merged from to (group ∷ old)) ++ drop n (group ∷ old)) (let same : suc (i + 1) ≡ suc i + 1 = omega arith in same)
+
+-- one number more of a range, and those that are left
+pub range-push : (count number : ℕ) (made more : List ℕ) → number < count → made ++ range_with_len number (count - number) ≡ range_with_len 0 count → more ≡ made ++ number ∷ []
+    → more ++ range_with_len (number + 1) (count - (number + 1)) ≡ range_with_len 0 count
+range-push count number made more below so_far is =
+    let left : count - number ≡ suc (count - (number + 1)) = omega arith in
+    ap (λ m. m ++ range_with_len (number + 1) (count - (number + 1))) is
+    ∙ append_assoc made (number ∷ []) (range_with_len (number + 1) (count - (number + 1)))
+    ∙ ap (λ n. made ++ range_with_len number n) (sym left)
+    ∙ so_far
+
+-- what isn't found stands past the end
+pub position-none : {X : Type 0} (p : X → Bool) (xs : List X) → position p xs ≡ None → length xs ≡ position_or_len p xs
+position-none p xs none = by_test (nat_lt (position_or_len p xs) (length xs)) refl none
+  where
+    by_test : (t : Bool) → nat_lt (position_or_len p xs) (length xs) ≡ t → (if t then Some (position_or_len p xs) else None) ≡ None → length xs ≡ position_or_len p xs
+    by_test true is none = absurd cc
+    by_test false is none =
+        let within : position_or_len p xs ≤ length xs = prefix_len-le-length (λ x. not (p x)) xs in
+        grind (arith, nat_tests, is, within)
+
+-- a fold over what a function makes of the items, one item further
+pub fold_flat_map-step : {X Y B : Type 0} (step : B → Y → B) (f : X → List Y) (whole now more : B) (xs : List X) (i : ℕ) (d : X) → i < length xs
+    → fold step now (flat_map f (drop i xs)) ≡ whole → more ≡ fold step now (f (get_or xs i d)) → fold step more (flat_map f (drop (i + 1) xs)) ≡ whole
+fold_flat_map-step step f whole now more xs i d below so_far is =
+    ap (λ m. fold step m (flat_map f (drop (i + 1) xs))) is
+    ∙ sym (fold-append step now (f (get_or xs i d)) (flat_map f (drop (i + 1) xs)))
+    ∙ ap (λ rest. fold step now (flat_map f rest)) (sym (drop-front xs i d below))
+    ∙ so_far
+
+pub length-flat_map-step : {X Y : Type 0} (f : X → List Y) (xs : List X) (i : ℕ) (d : X) → i < length xs
+    → length (flat_map f (drop i xs)) ≡ length (f (get_or xs i d)) + length (flat_map f (drop (i + 1) xs))
+length-flat_map-step f xs i d below =
+    ap (λ rest. length (flat_map f rest)) (drop-front xs i d below) ∙ length-append (f (get_or xs i d)) (flat_map f (drop (i + 1) xs))
+
+-- a count with a greatest number, at the end of the items
+pub count-end : {X Y : Type 0} (f : X → List Y) (xs : List X) (i count whole : ℕ) → length xs ≤ i → count ≤ 2 ^ 32 - 1
+    → min (count + length (flat_map f (drop i xs))) (2 ^ 32 - 1) ≡ whole → count ≡ whole
+count-end f xs i count whole past small so_far =
+    let here : count ≡ min (count + 0) (2 ^ 32 - 1) = min-small count (2 ^ 32 - 1) small in
+    here ∙ ap (λ rest. min (count + length (flat_map f rest)) (2 ^ 32 - 1)) (sym (drop-all i xs past)) ∙ so_far
+  where
+    min-small : (n m : ℕ) → n ≤ m → n ≡ min (n + 0) m
+    min-small n m small = omega arith
+
+    drop-all : {X : Type 0} (i : ℕ) (xs : List X) → length xs ≤ i → drop i xs ≡ []
+    drop-all zero [] past = refl
+    drop-all zero (x ∷ xs) past = absurd (omega arith)
+    drop-all (suc i) [] past = refl
+    drop-all (suc i) (x ∷ xs) past = drop-all i xs (omega arith)
+
+pub min-add : (a b m : ℕ) → min (min a m + min b m) m ≡ min (a + b) m
+min-add a b m = omega arith
+
+pub min-add3 : (a b c m : ℕ) → min (min (min a m + min b m) m + min c m) m ≡ min (a + (b + c)) m
+min-add3 a b c m = omega arith

@@ -1,0 +1,248 @@
+-- What holds of the meaning of each expression: its captures are there, its constants are valid, and it doesn't
+-- depend on places.
+use Rattle.std.proofs.Common.{◌≡◌, ◌∙◌, refl, sym, ap, subst, ℕ, ℤ, pos, ◌+◌, ◌≤◌, ◌<◌, Bool, true, false, ◌&&◌, if◌then◌else◌, List, [], ◌∷◌, ◌++◌, length, map, Option, Some, None, arith}
+use Rattle.std.specs.Prelude.{◌==◌}
+use Rattle.std.specs.List.{AllByRecursion, cons_option, list_any, position_or_len, slice_get}
+use Rattle.std.specs.Str.{bytes_eq}
+use Rattle.std.proofs.lemmas.Bool.{eq-eqb}
+use Rattle.std.proofs.lemmas.List.{length-map}
+use Rattle.std.proofs.lemmas.Option.{slice_get_within}
+use Rattle.std.proofs.lemmas.Slice.Eq.{bytes_eq-Decides}
+use Rattle.adfs_base.specs.declared.value.Kind.{Kind}
+use Rattle.adfs_base.specs.declared.value.Value.{Value}
+use Rattle.adfs_base.specs.declared.value.Value.TheVariants as value
+use Rattle.graph_tables.specs.Properties.{SchemaLists}
+use Rattle.pgql_tree.specs.declared.ast.AstExpr.{AstExpr}
+use Rattle.pgql_tree.specs.declared.ast.AstExpr.TheVariants as ast
+use Rattle.pgql_tree.specs.declared.ast.Op.{Op}
+use Rattle.pgql_tree.specs.declared.ast.Placed.{Placed}
+use Rattle.pgql_tree.specs.Same.{bare, bare_name}
+use Rattle.pgql_tree.proofs.Bare as bare
+use Rattle.value_text.specs.Dates.{IsDay, date_cell}
+use Rattle.value_text.specs.Texts.{number_of}
+use Rattle.value_text.specs.Valid.{IsValid}
+use Rattle.typed_expr.specs.declared.expr.Expr.{Expr}
+use Rattle.typed_expr.specs.declared.expr.Expr.TheVariants as expr
+use Rattle.typed_expr.specs.declared.query.Capture.{Capture}
+use Rattle.typed_expr.specs.declared.query.What.{What}
+use Rattle.typed_expr.specs.declared.query.What.TheVariants as what
+use Rattle.typed_expr.specs.declared.scope.Declared.{Declared}
+use Rattle.typed_expr.specs.Kinds.{property_in}
+use Rattle.typed_expr.specs.Meaning.{captured, date_value, meant}
+use Rattle.typed_expr.specs.Names.{variable_of}
+use Rattle.typed_expr.specs.Parts.{HasCapturesBelow, HasValidConstants}
+use Rattle.typed_expr.specs.Uses.{literals, property_of_variable, property_use, same_use, same_what, use_of, uses}
+use Rattle.typed_expr.proofs.Added.{IsIn, all-join, all-split, position-within}
+use Rattle.typed_expr.proofs.AstByParts.{by_parts}
+use Rattle.typed_expr.proofs.Cases as cases
+use Rattle.typed_expr.proofs.Days.{date_is_day}
+use Rattle.typed_expr.proofs.Parts as parts
+use Rattle.typed_expr.proofs.Scopes.{variable_found}
+
+pub use-itself : (a : Capture) → same_use a a ≡ true
+use-itself a = ap (λ t. t && same_what a.what a.what) (eq-eqb a.variable a.variable refl) ∙ of_what a.what
+  where
+    of_what : (w : What) → same_what w w ≡ true
+    of_what (what.Property number kind) = eq-eqb number number refl
+    of_what what.Id = refl
+    of_what what.Label = refl
+
+pub text-itself : (text : List ℕ) → bytes_eq text text ≡ true
+text-itself text = (bytes_eq-Decides text text).1 refl
+
+module _ (schema : SchemaLists) (variables : List Declared) where
+  -- a use is one of a variable
+  abbrev pub NamesVariable : Capture → Type 0
+  NamesVariable use' = use'.variable < length variables
+
+  variable-within : (name : List ℕ) (found : ℕ × Bool) → variable_of variables name ≡ Some found → found.0 < length variables
+  variable-within name found is =
+      let place = variable_found 0 variables name found.0 found.1 is in
+      let within = slice_get_within (map (λ v. v.edge) variables) place.0 found.1 place.2 in
+      omega (arith, place.1, within, length-map variables (λ v. v.edge))
+
+  use-names : (w : What) (name : List ℕ) (found : Option (ℕ × Bool)) → variable_of variables name ≡ found → AllByRecursion NamesVariable (cons_option (use_of w found) [])
+  use-names w name None is = tt
+  use-names w name (Some found) is = (variable-within name found is, tt)
+
+  property-names : (property name : List ℕ) (found : Option (ℕ × Bool)) → variable_of variables name ≡ found → AllByRecursion NamesVariable (cons_option (property_use schema property found) [])
+  property-names property name None is = tt
+  property-names property name (Some found) is = of_property (property_in schema found.1 property)
+    where
+      of_property : (p : Option (ℕ × Kind)) → AllByRecursion NamesVariable (cons_option (property_of_variable found.0 p) [])
+      of_property None = tt
+      of_property (Some p) = (variable-within name found is, tt)
+
+  named : (a : AstExpr) {found : List Capture} → uses schema variables a ≡ found → AllByRecursion NamesVariable found → AllByRecursion NamesVariable (uses schema variables a)
+  named a is all = subst (AllByRecursion NamesVariable) (sym is) all
+
+  pub uses-name_variables : (a : AstExpr) → AllByRecursion NamesVariable (uses schema variables a)
+  uses-name_variables = by_parts (λ a. AllByRecursion NamesVariable (uses schema variables a)) (record {
+    int = λ number at. named (ast.Int number at) (cases.uses-Int _ _ _ number at refl) tt;
+    text = λ content at. named (ast.Text content at) (cases.uses-Text _ _ _ content at refl) tt;
+    date = λ content at. named (ast.Date content at) (cases.uses-Date _ _ _ content at refl) tt;
+    bool = λ truth at. named (ast.Bool truth at) (cases.uses-Bool _ _ _ truth at refl) tt;
+    name = λ name at. named (ast.Name name at) (cases.uses-Name _ _ _ name at refl) tt;
+    property = λ variable property at.
+        named (ast.Property variable property at) (cases.uses-Property _ _ _ variable property at refl) (property-names property variable (variable_of variables variable) refl);
+    id = λ variable at. named (ast.Id variable at) (cases.uses-Id _ _ _ variable at refl) (use-names what.Id variable.name (variable_of variables variable.name) refl);
+    label = λ variable at. named (ast.Label variable at) (cases.uses-Label _ _ _ variable at refl) (use-names what.Label variable.name (variable_of variables variable.name) refl);
+    not = λ inside at within. named (ast.Not inside at) (cases.uses-Not _ _ _ inside at refl) within;
+    neg = λ inside at within. named (ast.Neg inside at) (cases.uses-Neg _ _ _ inside at refl) within;
+    is_null = λ inside negated at within. named (ast.IsNull inside negated at) (cases.uses-IsNull _ _ _ inside negated at refl) within;
+    binary = λ op left right at first second.
+        named (ast.Binary op left right at) (cases.uses-Binary _ _ _ op left right at refl)
+        (all-join NamesVariable (uses schema variables left) (uses schema variables right) first second);
+  })
+
+  module _ (captures : List Capture) (texts : List (List ℕ)) where
+    abbrev pub IsCaptured : Capture → Type 0
+    IsCaptured = IsIn same_use use-itself captures
+
+    abbrev IsBelow : Expr → Type 0
+    IsBelow = HasCapturesBelow (length captures)
+
+    captured-below : (use' : Option Capture) → AllByRecursion IsCaptured (cons_option use' []) → IsBelow (captured captures use')
+    captured-below None all = parts.below-Constant value.Null
+    captured-below (Some use') all = parts.below-Captured (position_or_len (same_use use') captures) (position-within (same_use use') captures all.0)
+
+    below : (a : AstExpr) {e : Expr} → meant schema variables captures texts a ≡ e → IsBelow e → IsBelow (meant schema variables captures texts a)
+    below a is b = subst IsBelow (sym is) b
+
+    used : (a : AstExpr) {found : List Capture} → uses schema variables a ≡ found → AllByRecursion IsCaptured (uses schema variables a) → AllByRecursion IsCaptured found
+    used a is all = subst (AllByRecursion IsCaptured) is all
+
+    pub meant-captured : (a : AstExpr) → AllByRecursion IsCaptured (uses schema variables a) → IsBelow (meant schema variables captures texts a)
+    meant-captured = by_parts (λ a. AllByRecursion IsCaptured (uses schema variables a) → IsBelow (meant schema variables captures texts a)) (record {
+      int = λ number at all. below (ast.Int number at) (cases.meant-Int _ _ _ _ _ number at refl) (parts.below-Constant (value.Int number));
+      text = λ content at all.
+          below (ast.Text content at) (cases.meant-Text _ _ _ _ _ content at refl)
+          (parts.below-Constant (value.Text (number_of texts content)));
+      date = λ content at all.
+          below (ast.Date content at) (cases.meant-Date _ _ _ _ _ content at refl)
+          (parts.below-Constant (date_value (date_cell content)));
+      bool = λ truth at all. below (ast.Bool truth at) (cases.meant-Bool _ _ _ _ _ truth at refl) (parts.below-Constant (value.Bool truth));
+      name = λ name at all. below (ast.Name name at) (cases.meant-Name _ _ _ _ _ name at refl) (parts.below-Constant value.Null);
+      property = λ variable property at all.
+          below (ast.Property variable property at) (cases.meant-Property _ _ _ _ _ variable property at refl)
+          (captured-below (property_use schema property (variable_of variables variable)) (used (ast.Property variable property at) (cases.uses-Property _ _ _ variable property at refl) all));
+      id = λ variable at all.
+          below (ast.Id variable at) (cases.meant-Id _ _ _ _ _ variable at refl)
+          (captured-below (use_of what.Id (variable_of variables variable.name)) (used (ast.Id variable at) (cases.uses-Id _ _ _ variable at refl) all));
+      label = λ variable at all.
+          below (ast.Label variable at) (cases.meant-Label _ _ _ _ _ variable at refl)
+          (captured-below (use_of what.Label (variable_of variables variable.name)) (used (ast.Label variable at) (cases.uses-Label _ _ _ variable at refl) all));
+      not = λ inside at within all.
+          below (ast.Not inside at) (cases.meant-Not _ _ _ _ _ inside at refl)
+          (parts.below-Not (meant schema variables captures texts inside) (within (used (ast.Not inside at) (cases.uses-Not _ _ _ inside at refl) all)));
+      neg = λ inside at within all.
+          below (ast.Neg inside at) (cases.meant-Neg _ _ _ _ _ inside at refl)
+          (parts.below-Neg (meant schema variables captures texts inside) (within (used (ast.Neg inside at) (cases.uses-Neg _ _ _ inside at refl) all)));
+      is_null = λ inside negated at within all.
+          below (ast.IsNull inside negated at) (cases.meant-IsNull _ _ _ _ _ inside negated at refl)
+          (parts.below-IsNull (meant schema variables captures texts inside) negated (within (used (ast.IsNull inside negated at) (cases.uses-IsNull _ _ _ inside negated at refl) all)));
+      binary = λ op left right at first second all.
+          let both = all-split IsCaptured (uses schema variables left) (uses schema variables right) (used (ast.Binary op left right at) (cases.uses-Binary _ _ _ op left right at refl) all) in
+          below (ast.Binary op left right at) (cases.meant-Binary _ _ _ _ _ op left right at refl)
+          (parts.below-Binary op (meant schema variables captures texts left) (meant schema variables captures texts right) (first both.0) (second both.1));
+    })
+
+    abbrev pub IsText : List ℕ → Type 0
+    IsText = IsIn bytes_eq text-itself texts
+
+    day-valid : (day : Option ℤ) → ((d : ℤ) → day ≡ Some d → IsDay d) → IsValid texts (date_value day)
+    day-valid None days = tt
+    day-valid (Some d) days = days d refl
+
+    captured-valid : (use' : Option Capture) → HasValidConstants texts (captured captures use')
+    captured-valid None = parts.valid-Constant value.Null tt
+    captured-valid (Some use') = parts.valid-Captured (position_or_len (same_use use') captures)
+
+    valid : (a : AstExpr) {e : Expr} → meant schema variables captures texts a ≡ e → HasValidConstants texts e → HasValidConstants texts (meant schema variables captures texts a)
+    valid a is v = subst (HasValidConstants texts) (sym is) v
+
+    written : (a : AstExpr) {found : List (List ℕ)} → literals a ≡ found → AllByRecursion IsText (literals a) → AllByRecursion IsText found
+    written a is all = subst (AllByRecursion IsText) is all
+
+    pub meant-valid : (a : AstExpr) → AllByRecursion IsText (literals a) → HasValidConstants texts (meant schema variables captures texts a)
+    meant-valid = by_parts (λ a. AllByRecursion IsText (literals a) → HasValidConstants texts (meant schema variables captures texts a)) (record {
+      int = λ number at all. valid (ast.Int number at) (cases.meant-Int _ _ _ _ _ number at refl) (parts.valid-Constant (value.Int number) tt);
+      text = λ content at all.
+          valid (ast.Text content at) (cases.meant-Text _ _ _ _ _ content at refl)
+          (parts.valid-Constant (value.Text (number_of texts content)) (position-within (bytes_eq content) texts (written (ast.Text content at) (cases.literals-Text _ content at refl) all).0));
+      date = λ content at all.
+          valid (ast.Date content at) (cases.meant-Date _ _ _ _ _ content at refl)
+          (parts.valid-Constant (date_value (date_cell content)) (day-valid (date_cell content) (date_is_day content)));
+      bool = λ truth at all. valid (ast.Bool truth at) (cases.meant-Bool _ _ _ _ _ truth at refl) (parts.valid-Constant (value.Bool truth) tt);
+      name = λ name at all. valid (ast.Name name at) (cases.meant-Name _ _ _ _ _ name at refl) (parts.valid-Constant value.Null tt);
+      property = λ variable property at all.
+          valid (ast.Property variable property at) (cases.meant-Property _ _ _ _ _ variable property at refl)
+          (captured-valid (property_use schema property (variable_of variables variable)));
+      id = λ variable at all.
+          valid (ast.Id variable at) (cases.meant-Id _ _ _ _ _ variable at refl)
+          (captured-valid (use_of what.Id (variable_of variables variable.name)));
+      label = λ variable at all.
+          valid (ast.Label variable at) (cases.meant-Label _ _ _ _ _ variable at refl)
+          (captured-valid (use_of what.Label (variable_of variables variable.name)));
+      not = λ inside at within all.
+          valid (ast.Not inside at) (cases.meant-Not _ _ _ _ _ inside at refl)
+          (parts.valid-Not (meant schema variables captures texts inside) (within (written (ast.Not inside at) (cases.literals-Not _ inside at refl) all)));
+      neg = λ inside at within all.
+          valid (ast.Neg inside at) (cases.meant-Neg _ _ _ _ _ inside at refl)
+          (parts.valid-Neg (meant schema variables captures texts inside) (within (written (ast.Neg inside at) (cases.literals-Neg _ inside at refl) all)));
+      is_null = λ inside negated at within all.
+          valid (ast.IsNull inside negated at) (cases.meant-IsNull _ _ _ _ _ inside negated at refl)
+          (parts.valid-IsNull (meant schema variables captures texts inside) negated (within (written (ast.IsNull inside negated at) (cases.literals-IsNull _ inside negated at refl) all)));
+      binary = λ op left right at first second all.
+          let both = all-split IsText (literals left) (literals right) (written (ast.Binary op left right at) (cases.literals-Binary _ op left right at refl) all) in
+          valid (ast.Binary op left right at) (cases.meant-Binary _ _ _ _ _ op left right at refl)
+          (parts.valid-Binary op (meant schema variables captures texts left) (meant schema variables captures texts right) (first both.0) (second both.1));
+    })
+
+    -- places have no part in it
+    meant-bare : (a : AstExpr) → meant schema variables captures texts (bare a) ≡ meant schema variables captures texts a
+    meant-bare = by_parts (λ a. meant schema variables captures texts (bare a) ≡ meant schema variables captures texts a) (record {
+      int = λ number at.
+          ap (meant schema variables captures texts) (bare.bare-Int number at) ∙ cases.meant-Int _ _ _ _ _ number 0 refl
+          ∙ sym (cases.meant-Int _ _ _ _ _ number at refl);
+      text = λ content at.
+          ap (meant schema variables captures texts) (bare.bare-Text content at) ∙ cases.meant-Text _ _ _ _ _ content 0 refl
+          ∙ sym (cases.meant-Text _ _ _ _ _ content at refl);
+      date = λ content at.
+          ap (meant schema variables captures texts) (bare.bare-Date content at) ∙ cases.meant-Date _ _ _ _ _ content 0 refl
+          ∙ sym (cases.meant-Date _ _ _ _ _ content at refl);
+      bool = λ truth at.
+          ap (meant schema variables captures texts) (bare.bare-Bool truth at) ∙ cases.meant-Bool _ _ _ _ _ truth 0 refl
+          ∙ sym (cases.meant-Bool _ _ _ _ _ truth at refl);
+      name = λ name at.
+          ap (meant schema variables captures texts) (bare.bare-Name name at) ∙ cases.meant-Name _ _ _ _ _ name 0 refl
+          ∙ sym (cases.meant-Name _ _ _ _ _ name at refl);
+      property = λ variable property at.
+          ap (meant schema variables captures texts) (bare.bare-Property variable property at) ∙ cases.meant-Property _ _ _ _ _ variable property 0 refl
+          ∙ sym (cases.meant-Property _ _ _ _ _ variable property at refl);
+      id = λ variable at.
+          ap (meant schema variables captures texts) (bare.bare-Id variable at) ∙ cases.meant-Id _ _ _ _ _ (bare_name variable) 0 refl
+          ∙ sym (cases.meant-Id _ _ _ _ _ variable at refl);
+      label = λ variable at.
+          ap (meant schema variables captures texts) (bare.bare-Label variable at) ∙ cases.meant-Label _ _ _ _ _ (bare_name variable) 0 refl
+          ∙ sym (cases.meant-Label _ _ _ _ _ variable at refl);
+      not = λ inside at within.
+          ap (meant schema variables captures texts) (bare.bare-Not inside at) ∙ cases.meant-Not _ _ _ _ _ (bare inside) 0 refl
+          ∙ ap expr.Not within
+          ∙ sym (cases.meant-Not _ _ _ _ _ inside at refl);
+      neg = λ inside at within.
+          ap (meant schema variables captures texts) (bare.bare-Neg inside at) ∙ cases.meant-Neg _ _ _ _ _ (bare inside) 0 refl
+          ∙ ap expr.Neg within
+          ∙ sym (cases.meant-Neg _ _ _ _ _ inside at refl);
+      is_null = λ inside negated at within.
+          ap (meant schema variables captures texts) (bare.bare-IsNull inside negated at) ∙ cases.meant-IsNull _ _ _ _ _ (bare inside) negated 0 refl
+          ∙ ap (λ x. expr.IsNull x negated) within
+          ∙ sym (cases.meant-IsNull _ _ _ _ _ inside negated at refl);
+      binary = λ op left right at first second.
+          ap (meant schema variables captures texts) (bare.bare-Binary op left right at) ∙ cases.meant-Binary _ _ _ _ _ op (bare left) (bare right) 0 refl
+          ∙ ap (λ x. expr.Binary op x (meant schema variables captures texts (bare right))) first ∙ ap (expr.Binary op (meant schema variables captures texts left)) second
+          ∙ sym (cases.meant-Binary _ _ _ _ _ op left right at refl);
+    })
+
+    pub meant-same : (a b : AstExpr) → bare a ≡ bare b → meant schema variables captures texts a ≡ meant schema variables captures texts b
+    meant-same a b same = sym (meant-bare a) ∙ ap (meant schema variables captures texts) same ∙ meant-bare b

@@ -1,0 +1,28 @@
+-- What all expressions of a query have, taken part by part.
+use Rattle.std.proofs.Common.{◌≡◌, ◌+◌, ℕ, List, ◌++◌, length, sym, ap, ◌∙◌, arith}
+use Rattle.std.specs.Prelude.{fold, flat_map}
+use Rattle.std.proofs.lemmas.List.{length-append}
+use Rattle.std.proofs.lemmas.List.Sums.{fold-append}
+use Rattle.pgql_tree.specs.declared.ast.Ast.{Ast}
+use Rattle.pgql_tree.specs.declared.ast.AstExpr.{AstExpr}
+use Rattle.typed_expr.specs.Typed.{of_all, of_condition}
+
+pub fold-of_all : {X B : Type 0} (step : B → X → B) (f : AstExpr → List X) (ast : Ast) (before selected tested all : B)
+    → selected ≡ fold step before (flat_map (λ item. f item.expr) ast.items) → tested ≡ fold step selected (of_condition f ast.condition)
+    → all ≡ fold step tested (flat_map (λ key. f key.expr) ast.keys) → all ≡ fold step before (of_all f ast)
+fold-of_all step f ast before selected tested all first second third =
+    let items = flat_map (λ item. f item.expr) ast.items in
+    let condition = of_condition f ast.condition in
+    let keys = flat_map (λ key. f key.expr) ast.keys in
+    third
+    ∙ ap (λ b. fold step b keys) second
+    ∙ ap (λ b. fold step (fold step b condition) keys) first
+    ∙ sym (fold-append step before items (condition ++ keys) ∙ fold-append step (fold step before items) condition keys)
+
+pub length-of_all : {X : Type 0} (f : AstExpr → List X) (ast : Ast)
+    → length (of_all f ast) ≡ length (flat_map (λ item. f item.expr) ast.items) + (length (of_condition f ast.condition) + length (flat_map (λ key. f key.expr) ast.keys))
+length-of_all f ast =
+    let items = flat_map (λ item. f item.expr) ast.items in
+    let condition = of_condition f ast.condition in
+    let keys = flat_map (λ key. f key.expr) ast.keys in
+    length-append items (condition ++ keys) ∙ ap (λ n. length items + n) (length-append condition keys)

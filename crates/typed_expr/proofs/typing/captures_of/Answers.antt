@@ -1,0 +1,11 @@
+use Rattle.std.proofs.Common.{[]}
+use Rattle.typed_expr.specs.Uses.{uses, with_use}
+use Rattle.typed_expr.proofs.Wholes.{fold-of_all}
+use Rattle.typed_expr.proofs.typing.captures_of.Goals as goal
+
+pub returns : goal.returns
+returns c =
+    fold-of_all with_use (uses c.args.schema.now c.args.variables.now) c.args.ast.now [] c.add_item_uses.new.found c.add_condition_uses.new.found c.add_key_uses.new.found
+    (rw (c.as_slice.ensures, c.new-captures.ensures) at c.in_ok-add_item_uses.ensures)
+    c.in_ok-add_condition_uses.ensures
+    (rw c.as_slice-2.ensures at c.in_ok-add_key_uses.ensures)

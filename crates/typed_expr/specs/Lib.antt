@@ -1,0 +1,14 @@
+pub mod Faults
+pub mod Joined
+pub mod Kinds
+pub mod Laws
+pub mod Meaning
+pub mod Names
+pub mod Parts
+pub mod Printed
+pub mod Same
+pub mod Scope
+pub mod Typed
+pub mod Uses
+pub mod Val
+pub mod WellFormed

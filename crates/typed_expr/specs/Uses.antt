@@ -1,0 +1,62 @@
+-- What an expression uses: variables, and the texts of its literals, each in the order of the text.
+use Rattle.std.specs.Prelude.{ℕ, Bool, true, false, ◌==◌, ◌&&◌, if◌then◌else◌, List, [], ◌∷◌, ◌++◌, Option, Some, None}
+use Rattle.std.specs.List.{list_any, cons_option}
+use Rattle.std.specs.Option.{option_map, option_and_then}
+use Rattle.adfs_base.specs.declared.value.Kind.{Kind}
+use Rattle.pgql_tree.specs.declared.ast.AstExpr.{AstExpr}
+use Rattle.pgql_tree.specs.declared.ast.AstExpr.TheOpen.{AstExpr-F}
+use Rattle.pgql_tree.specs.declared.ast.AstExpr.TheFolds.{fold-AstExpr}
+pub use Rattle.pgql_tree.specs.Literals.{literals_of}
+unfoldable pub use Rattle.pgql_tree.specs.Literals.{literals}
+use Rattle.typed_expr.specs.declared.query.Capture.{Capture}
+use Rattle.typed_expr.specs.declared.query.What.{What}
+use Rattle.typed_expr.specs.declared.query.What.TheVariants as what
+use Rattle.typed_expr.specs.declared.scope.Declared.{Declared}
+use Rattle.typed_expr.specs.Kinds.{property_in}
+use Rattle.typed_expr.specs.Names.{variable_of}
+use Rattle.graph_tables.specs.Properties.{SchemaLists}
+
+abbrev pub same_what : What → What → Bool
+same_what (what.Property number kind) (what.Property other kind') = number == other
+same_what what.Id what.Id = true
+same_what what.Label what.Label = true
+same_what a b = false
+
+abbrev pub same_use : Capture → Capture → Bool
+same_use a b = (a.variable == b.variable) && same_what a.what b.what
+
+-- `id(x)` and `label(x)`, where x is a variable
+abbrev pub use_of : What → Option (ℕ × Bool) → Option Capture
+use_of what None = None
+use_of what (Some variable) = Some (record { variable = variable.0; what = what })
+
+abbrev pub property_of_variable : ℕ → Option (ℕ × Kind) → Option Capture
+property_of_variable variable None = None
+property_of_variable variable (Some property) = Some (record { variable = variable; what = what.Property property.0 property.1 })
+
+-- `x.p`, where x is a variable that has p
+abbrev pub property_use : SchemaLists → List ℕ → Option (ℕ × Bool) → Option Capture
+property_use schema property None = None
+property_use schema property (Some variable) = property_of_variable variable.0 (property_in schema variable.1 property)
+
+abbrev pub uses_of : SchemaLists → List Declared → AstExpr-F (List Capture) → List Capture
+uses_of schema variables (AstExpr-F.Int number at) = []
+uses_of schema variables (AstExpr-F.Text content at) = []
+uses_of schema variables (AstExpr-F.Date content at) = []
+uses_of schema variables (AstExpr-F.Bool truth at) = []
+uses_of schema variables (AstExpr-F.Name name at) = []
+uses_of schema variables (AstExpr-F.Property variable property at) = cons_option (property_use schema property (variable_of variables variable)) []
+uses_of schema variables (AstExpr-F.Id variable at) = cons_option (use_of what.Id (variable_of variables variable.name)) []
+uses_of schema variables (AstExpr-F.Label variable at) = cons_option (use_of what.Label (variable_of variables variable.name)) []
+uses_of schema variables (AstExpr-F.Not inside at) = inside
+uses_of schema variables (AstExpr-F.Neg inside at) = inside
+uses_of schema variables (AstExpr-F.IsNull inside negated at) = inside
+uses_of schema variables (AstExpr-F.Binary op left right at) = left ++ right
+
+-- its uses of variables
+unfoldable pub uses : SchemaLists → List Declared → AstExpr → List Capture
+uses schema variables = fold-AstExpr (List Capture) (uses_of schema variables)
+
+-- the captures with a use among them
+abbrev pub with_use : List Capture → Capture → List Capture
+with_use captures use' = if list_any (same_use use') captures then captures else captures ++ use' ∷ []
