@@ -7,7 +7,7 @@ use Rattle.std.specs.declared.cmp.Ordering.TheVariants.{Less, Equal, Greater}
 use Rattle.std.proofs.lemmas.Cmp.{lists_total, nat_list_cmp_total, on_total, then_total}
 use Rattle.value_text.specs.Order.{value_order}
 use Rattle.value_text.proofs.Orders.{value_order-total}
-use Rattle.answer_rows.specs.Arranged.{Arrangement, Shown, match_order, ties_order}
+use Rattle.answer_rows.specs.Arranged.{Arrangement, Shown, match_order, rows_order, ties_order}
 use Rattle.answer_rows.specs.Orders.{directed, first_key, keys_order}
 
 -- ---- orders turned round
@@ -46,8 +46,11 @@ keys_order-total texts (down ∷ downs) =
     then_total (IsTotalOrder-directed down (λ a b. value_order texts (first_key a) (first_key b)) (on_total first_key (value_order-total texts)))
     (on_total (drop 1) (keys_order-total texts downs))
 
+pub rows_order-total : (texts : List (List ℕ)) → IsTotalOrder (rows_order texts)
+rows_order-total texts = on_total (λ (m : Shown). m.row) (lists_total (value_order-total texts))
+
 ties_order-total : (texts : List (List ℕ)) (distinct : Bool) → IsTotalOrder (ties_order texts distinct)
-ties_order-total texts true = on_total (λ (m : Shown). m.row) (lists_total (value_order-total texts))
+ties_order-total texts true = rows_order-total texts
 ties_order-total texts false = on_total (λ (m : Shown). m.numbers) nat_list_cmp_total
 
 pub match_order-total : (texts : List (List ℕ)) (arrangement : Arrangement) → IsTotalOrder (match_order texts arrangement)

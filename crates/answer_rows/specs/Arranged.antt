@@ -1,6 +1,5 @@
 -- The rows of matches, in the order of an answer.
-use Rattle.std.specs.Prelude.{ℕ, Bool, List, [], ◌∷◌, ◌++◌, map, take, Option, Some, None, if◌then◌else◌}
-use Rattle.std.specs.List.{list_any}
+use Rattle.std.specs.Prelude.{ℕ, Bool, not, List, [], ◌∷◌, filter, map, take, Option, Some, None, if◌then◌else◌}
 use Rattle.std.specs.Ordering.{is_eq, ordering_then}
 use Rattle.std.specs.declared.cmp.Ordering.{Ordering}
 use Rattle.adfs_base.specs.declared.value.Value.{Value}
@@ -30,20 +29,21 @@ ties_order texts distinct a b = if distinct then row_order texts a.row b.row els
 abbrev pub match_order : List (List ℕ) → Arrangement → Shown → Shown → Ordering
 match_order texts arrangement a b = ordering_then (keys_order texts arrangement.downs a.keys b.keys) (ties_order texts arrangement.distinct a b)
 
+-- by their rows alone
+abbrev pub rows_order : List (List ℕ) → Shown → Shown → Ordering
+rows_order texts a b = row_order texts a.row b.row
+
 abbrev pub has_row : List (List ℕ) → Shown → Shown → Bool
-has_row texts a b = is_eq (row_order texts a.row b.row)
+has_row texts a b = is_eq (rows_order texts a b)
 
--- the matches, and one more unless an earlier one has its row
-abbrev pub with_match : List (List ℕ) → List Shown → Shown → List Shown
-with_match texts kept m = if list_any (has_row texts m) kept then kept else kept ++ m ∷ []
-
-abbrev pub with_matches : List (List ℕ) → List Shown → List Shown → List Shown
-with_matches texts kept [] = kept
-with_matches texts kept (m ∷ ms) = with_matches texts (with_match texts kept m) ms
+-- of those that are the same the first
+abbrev pub first_of_each : {X : Type 0} → (X → X → Bool) → List X → List X
+first_of_each same [] = []
+first_of_each same (x ∷ xs) = x ∷ filter (λ y. not (same x y)) (first_of_each same xs)
 
 -- with DISTINCT the first match of each row
 abbrev pub kept : List (List ℕ) → Bool → List Shown → List Shown
-kept texts distinct matches = if distinct then with_matches texts [] matches else matches
+kept texts distinct matches = if distinct then first_of_each (has_row texts) matches else matches
 
 -- the first rows, as many as the limit lets
 abbrev pub limited : {X : Type 0} → Option ℕ → List X → List X

@@ -1,9 +1,9 @@
 //! Matches in the order of an answer.
-ghost use Rattle.std.specs.Prelude.{◌≡◌, [], OnOk, IfOk, map};
-ghost use Rattle.std.specs.List.{list_any};
+ghost use Rattle.std.specs.Prelude.{◌≡◌, OnOk, IfOk, map, if◌then◌else◌};
+ghost use Rattle.std.specs.List.{dedup};
 ghost use Rattle.sorted_lists.specs.Sorted.{before_by, in_order};
 ghost use Rattle.answer_rows.specs.Arranged as arranged;
-ghost use Rattle.answer_rows.specs.Arranged.{has_row, match_order, rows_of, with_match, with_matches};
+ghost use Rattle.answer_rows.specs.Arranged.{has_row, match_order, rows_of, rows_order};
 
 use crate::compare::{compare_matches, compare_rows};
 use crate::{Match, Row};
@@ -68,27 +68,29 @@ fn has_row(m: &Match, other: &Match, texts: &Texts) -> bool
     compare_rows(m.row(), other.row(), texts).is_eq()
 }
 
-fn is_kept(kept: &[Match], m: &Match, texts: &Texts) -> bool
-    ensures { result ≡ list_any (has_row texts.now m.now) kept.now }
+fn sort_by_rows(matches: &mut Vec<Match>, texts: &Texts) -> Result<(), NoMemory>
+    ensures { OnOk result (matches.new.items ≡ in_order (before_by (rows_order texts.now)) matches.old.items) }
 {
-    kept.iter().any(|other| has_row(m, other, texts))
+    sort_by(
+        matches,
+        |a: &Match, b: &Match| -> Ordering
+            ensures { result ≡ rows_order texts.entry.now a.now b.now }
+        { compare_rows(a.row(), b.row(), texts) },
+    )?;
+    Ok(())
 }
 
-// Of the matches with one row the first.
-fn first_of_each_row(
-    alloc: Global,
-    matches: Vec<Match>,
-    texts: &Texts,
-) -> Result<Vec<Match>, NoMemory>
-    ensures { IfOk result (λ kept. kept.items ≡ with_matches texts.now [] matches.items) }
+// Of neighbours with one row the first.
+fn drop_doubles(matches: &mut Vec<Match>, texts: &Texts)
+    ensures { matches.new.items ≡ dedup (has_row texts.now) matches.old.items }
 {
-    let mut kept = Vec::new(alloc);
-    for m in matches {
-        if !is_kept(&kept, &m, texts) {
-            kept.push(m)?;
-        }
-    }
-    Ok(kept)
+    matches.dedup_by(
+        |m: &mut Match, kept: &mut Match| -> bool
+            ensures same { result ≡ has_row texts.entry.now m.old kept.old }
+            ensures m { m.new ≡ m.old }
+            ensures kept { kept.new ≡ kept.old }
+        { has_row(m, kept, texts) },
+    );
 }
 
 fn sort(matches: &mut Vec<Match>, arrangement: &Arrangement, texts: &Texts) -> Result<(), NoMemory>
@@ -118,23 +120,31 @@ fn rows(alloc: Global, matches: Vec<Match>) -> Result<Vec<Row>, NoMemory>
     Ok(matches.into_iter().map(|m| m.into_row()).collect(alloc)?)
 }
 
-// The matches that have a row in the answer.
-fn kept(
-    alloc: Global,
-    matches: Vec<Match>,
-    distinct: bool,
-    texts: &Texts,
-) -> Result<Vec<Match>, NoMemory>
-    ensures { IfOk result (λ kept. kept.items ≡ arranged.kept texts.now distinct matches.items) }
+// With DISTINCT leaves one match for each row.
+fn keep(matches: &mut Vec<Match>, distinct: bool, texts: &Texts) -> Result<(), NoMemory>
+    ensures { OnOk result (matches.new.items ≡ (if distinct then dedup (has_row texts.now) (in_order (before_by (rows_order texts.now)) matches.old.items) else matches.old.items)) }
 {
     if distinct {
-        first_of_each_row(alloc, matches, texts)
-    } else {
-        Ok(matches)
+        sort_by_rows(matches, texts)?;
+        drop_doubles(matches, texts);
     }
+    Ok(())
 }
 
-/// The rows of the matches, in the order of an answer: exactly `rows_of`.
+// Leaves the matches that have a row in the answer, in their order.
+fn arrange(
+    matches: &mut Vec<Match>,
+    arrangement: &Arrangement,
+    texts: &Texts,
+) -> Result<(), NoMemory>
+    ensures { OnOk result (matches.new.items ≡ in_order (before_by (match_order texts.now arrangement.now)) (arranged.kept texts.now arrangement.now.distinct matches.old.items)) }
+{
+    keep(matches, arrangement.distinct(), texts)?;
+    sort(matches, arrangement, texts)
+}
+
+/// The rows of the matches, in the order of an answer: exactly `rows_of`. It takes O(n log n) comparisons of
+/// matches.
 pub fn rows_in_order(
     alloc: Global,
     matches: Vec<Match>,
@@ -143,10 +153,8 @@ pub fn rows_in_order(
 ) -> Result<Vec<Row>, NoMemory>
     ensures { IfOk result (λ rows. rows.items ≡ rows_of texts.now arrangement.now matches.items) }
 {
-    let distinct = arrangement.distinct();
-    let most = arrangement.most();
-    let mut kept = kept(alloc, matches, distinct, texts)?;
-    sort(&mut kept, arrangement, texts)?;
-    limit(&mut kept, most);
+    let mut kept = matches;
+    arrange(&mut kept, arrangement, texts)?;
+    limit(&mut kept, arrangement.most());
     rows(alloc, kept)
 }

@@ -31,6 +31,10 @@ All-placed P before x (y ∷ ys) here all =
     elim (before y x) as (λ b. AllByRecursion P (cond b (y ∷ placed before x ys) (x ∷ y ∷ ys)))
     [ true ↦ (all.0, All-placed P before x ys here all.1) | false ↦ (here, all) ]
 
+pub All-in_order : {X : Type 0} (P : X → Type 0) (before : X → X → Bool) (xs : List X) → AllByRecursion P xs → AllByRecursion P (in_order before xs)
+All-in_order P before [] all = tt
+All-in_order P before (x ∷ xs) all = All-placed P before x (in_order before xs) all.0 (All-in_order P before xs all.1)
+
 Ascends-placed_by : {X : Type 0} (before : X → X → Bool) → IsStrictWeakOrder before → (x y : X) (ys : List X) → Ascends before (y ∷ ys) → (b : Bool) → before y x ≡ b
     → Ascends before (placed before x ys) → Ascends before (cond b (y ∷ placed before x ys) (x ∷ y ∷ ys))
 Ascends-placed_by before order x y ys ascends true is more =
