@@ -1,0 +1,7 @@
+pub mod AnyOrder
+pub mod ByAssignment
+pub mod Extensions
+pub mod Matches
+pub mod Once
+pub mod Pruning
+pub mod Validity
