@@ -1,4 +1,2 @@
-pub mod Ascending
-pub mod Matches
 pub mod QueryFile
 pub mod Steps

@@ -3,10 +3,9 @@ use Rattle.std.proofs.Common.{◌≡◌, ℕ, ◌+◌, ◌<◌, ◌≤◌, nat_l
 use Rattle.std.proofs.lemmas.Grind.{common_steps}
 use Rattle.std.proofs.lemmas.List.{length-take, take_all}
 use Rattle.adfs_base.specs.Files.{Files, file_of, Reads}
-use Rattle.pgql_syntax.specs.FirstForm.{is_first_form}
 use Rattle.graph_tables.specs.declared.faults.Quantity.TheVariants as quantity
-use Rattle.adfs_top.specs.Outcome.{query_in}
-use Rattle.adfs_top.specs.declared.status.Status.TheVariants.{Limit, NotBuilt}
+use Rattle.adfs_top.specs.Outcome.{query_bytes}
+use Rattle.adfs_top.specs.declared.status.Status.TheVariants.{Limit}
 
 -- a short front is the whole
 whole_read : (most : ℕ) (bytes file : List ℕ) → bytes ≡ take (most + 1) file → length bytes ≤ most → (file ≡ bytes) × (nat_lt most (length file) ≡ false)
@@ -15,37 +14,24 @@ whole_read most bytes file front short = (grind (arith, common_steps, length-tak
 long_read : (most : ℕ) (bytes file : List ℕ) → bytes ≡ take (most + 1) file → most < length bytes → nat_lt most (length file) ≡ true
 long_read most bytes file front long = grind (arith, common_steps, length-take (most + 1) file)
 
-found_in : (bytes : List ℕ) (found : Option (List ℕ)) → IsSomeAnd found (λ f. bytes ≡ take (268435456 + 1) f) → length bytes ≤ 268435456
-    → is_first_form bytes ≡ true → query_in found ≡ Ok bytes
-found_in bytes None front short known = absurd front
-found_in bytes (Some file) front short known =
+found_in : (bytes : List ℕ) (found : Option (List ℕ)) → IsSomeAnd found (λ f. bytes ≡ take (268435456 + 1) f) → length bytes ≤ 268435456 → query_bytes found ≡ Ok bytes
+found_in bytes None front short = absurd front
+found_in bytes (Some file) front short =
     let whole = whole_read 268435456 bytes file front short in
-    rw (whole.1, whole.0, known) refl
-
-other_in : (bytes : List ℕ) (found : Option (List ℕ)) → IsSomeAnd found (λ f. bytes ≡ take (268435456 + 1) f) → length bytes ≤ 268435456
-    → is_first_form bytes ≡ false → query_in found ≡ Err (NotBuilt 257)
-other_in bytes None front short other = absurd front
-other_in bytes (Some file) front short other =
-    let whole = whole_read 268435456 bytes file front short in
-    rw (whole.1, whole.0, other) refl
+    rw (whole.1, whole.0) refl
 
 long_in : (bytes : List ℕ) (found : Option (List ℕ)) → IsSomeAnd found (λ f. bytes ≡ take (268435456 + 1) f) → 268435456 < length bytes
-    → query_in found ≡ Err (Limit quantity.FileBytes 268435456)
+    → query_bytes found ≡ Err (Limit quantity.FileBytes 268435456)
 long_in bytes None front long = absurd front
 long_in bytes (Some file) front long = rw (long_read 268435456 bytes file front long) refl
 
 -- the same where the files may be told
-pub query_found : (files : Option Files) (name bytes : List ℕ) → Reads files name 268435456 bytes → length bytes ≤ 268435456 → is_first_form bytes ≡ true
-    → IfSome files (λ told. query_in (file_of name told) ≡ Ok bytes)
-query_found None name bytes reads short known = tt
-query_found (Some told) name bytes reads short known = found_in bytes (file_of name told) reads short known
-
-pub query_other : (files : Option Files) (name bytes : List ℕ) → Reads files name 268435456 bytes → length bytes ≤ 268435456 → is_first_form bytes ≡ false
-    → IfSome files (λ told. query_in (file_of name told) ≡ Err (NotBuilt 257))
-query_other None name bytes reads short other = tt
-query_other (Some told) name bytes reads short other = other_in bytes (file_of name told) reads short other
+pub query_found : (files : Option Files) (name bytes : List ℕ) → Reads files name 268435456 bytes → length bytes ≤ 268435456
+    → IfSome files (λ told. query_bytes (file_of name told) ≡ Ok bytes)
+query_found None name bytes reads short = tt
+query_found (Some told) name bytes reads short = found_in bytes (file_of name told) reads short
 
 pub query_long : (files : Option Files) (name bytes : List ℕ) → Reads files name 268435456 bytes → 268435456 < length bytes
-    → IfSome files (λ told. query_in (file_of name told) ≡ Err (Limit quantity.FileBytes 268435456))
+    → IfSome files (λ told. query_bytes (file_of name told) ≡ Err (Limit quantity.FileBytes 268435456))
 query_long None name bytes reads long = tt
 query_long (Some told) name bytes reads long = long_in bytes (file_of name told) reads long

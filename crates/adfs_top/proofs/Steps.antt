@@ -1,15 +1,21 @@
 -- A run whose first step went well, by what its second step gave.
-use Rattle.std.proofs.Common.{◌≡◌, ℕ, ◌+◌, ◌-◌, ◌^◌, ◌≤◌, min, List, Option, Some, None, Result, Ok, Err, IfSome, IfErr, MatchOption, arith, subst, refl}
+use Rattle.std.proofs.Common.{◌≡◌, ℕ, ◌+◌, ◌-◌, ◌^◌, ◌≤◌, min, Global, List, Vec, ◌∷◌, ◌++◌, length, map, take, append_assoc, ap, sym, ◌∙◌, Option, Some, None, Result, Ok, Err, IfSome, IfErr, MatchOption, arith, subst, refl}
 use Rattle.adfs_base.specs.Counts.{Rose, counted}
-use Rattle.adfs_base.specs.Files.{Files, file_of}
-use Rattle.graph_tables.specs.Graph.{PropertyGraph}
-use Rattle.graph_tables.specs.Loaded.{loaded}
-use Rattle.adfs_top.specs.Answer.{answer_of}
-use Rattle.adfs_top.specs.Causes.{FailsAt, PartGives, StoreCause}
-use Rattle.adfs_top.specs.Faults.{status_of_cell, status_of_fault, status_of_kind, with_status}
-use Rattle.adfs_top.specs.Outcome.{◌>>~◌, query_in, text_of_files}
-use Rattle.adfs_top.specs.Query.{first_query}
-use Rattle.adfs_top.specs.Text.{reply_text}
+use Rattle.std.proofs.Math.Seq.{take-append-add}
+use Rattle.std.proofs.lemmas.Grind.{common_steps}
+use Rattle.std.proofs.lemmas.List.{take-append-le, take_min}
+use Rattle.adfs_base.specs.Bytes.{took, TookFront}
+use Rattle.adfs_base.specs.Files.{Files}
+use Rattle.graph_tables.specs.Graph.{IsWhole, PropertyGraph}
+use Rattle.graph_tables.specs.Properties.{SchemaLists}
+use Rattle.pgql_lexer.specs.Pieces.{pieces}
+use Rattle.pgql_meaning.specs.Shown.{HasShown}
+use Rattle.query_replies.specs.Replies.{AreReplies}
+use Rattle.query_replies.specs.declared.answers.Replies.{Replies}
+use Rattle.adfs_top.specs.Causes.{AnswersGive, EndsPuts, FailsAt, IsAnswered, IsOfFiles, IsOfText, PartGives, Puts, PutsNothing, StoreCause, joined}
+use Rattle.adfs_top.specs.Faults.{status_of_cell, status_of_fault, status_of_kind}
+use Rattle.adfs_top.specs.Outcome.{◌>>~◌, Job, few_places, job_of, job_of_files, job_of_text, with_usage, without_texts}
+use Rattle.adfs_top.specs.Words.{options_of}
 use Rattle.graph_tables.specs.Faults as tables
 use Rattle.graph_tables.specs.declared.faults.TableFault.{TableFault}
 use Rattle.graph_tables.specs.declared.faults.TableKind.{TableKind}
@@ -17,24 +23,54 @@ use Rattle.graph_tables.specs.declared.faults.TableKind.TheVariants as kind
 use Rattle.value_text.specs.declared.cells.CellFault.{CellFault}
 use Rattle.value_text.specs.declared.cells.CellFault.TheVariants as cell
 use Rattle.adfs_top.specs.declared.status.Status.{Status}
-use Rattle.adfs_top.specs.declared.status.Status.TheVariants.{Missing, ReadFault}
+use Rattle.adfs_top.specs.declared.status.Status.TheVariants as variant
+use Rattle.adfs_top.specs.declared.status.Status.TheVariants.{Done, Limit, Missing, NoMemory, ReadFault, SomeRefused, Usage, WriteFault}
 
--- the reply over a graph
-abbrev pub answered : Files → List ℕ → PropertyGraph → Result (List ℕ) Status
-answered files queries graph = query_in (file_of queries files) >>~ λ query. Ok (reply_text (answer_of graph first_query))
+-- ---- what the steps give
 
-gives_told : {X : Type 0} (view : X → List ℕ) (files : Option Files) (manifest queries : List ℕ) (graph : PropertyGraph) (result : Result X Status)
-    → IfSome files (λ told. with_status (loaded told manifest) ≡ Ok graph) → IfSome files (λ told. PartGives view result (answered told queries graph))
-    → IfSome files (λ told. PartGives view result (text_of_files told (manifest, queries)))
-gives_told view None manifest queries graph result loads gives = tt
-gives_told view (Some told) manifest queries graph result loads gives = rw loads gives
+-- a step that fails, before another
+failed : {X Y : Type 0} (view : X → Y) (status : Status) (part : Result Y Status) (next : Y → Result Job Status) → PartGives view (Err status) part → AnswersGive (Err status) (part >>~ next)
+failed view Done part next gives = rw gives refl
+failed view SomeRefused part next gives = rw gives refl
+failed view (Usage word) part next gives = rw gives refl
+failed view (variant.TableFault file row column code cell) part next gives = rw gives refl
+failed view (ReadFault file) part next gives = tt
+failed view (Missing file) part next gives = rw gives refl
+failed view WriteFault part next gives = rw gives refl
+failed view NoMemory part next gives = tt
+failed view (Limit quantity number) part next gives = rw gives refl
 
--- with the files as the first step left them
-pub text_gives : {X : Type 0} (view : X → List ℕ) (files left : Option Files) (manifest queries : List ℕ) (graph : PropertyGraph) (result : Result X Status)
-    → left ≡ files → IfSome files (λ told. with_status (loaded told manifest) ≡ Ok graph) → IfSome left (λ told. PartGives view result (answered told queries graph))
-    → IfSome files (λ told. PartGives view result (text_of_files told (manifest, queries)))
-text_gives view files left manifest queries graph result kept loads gives =
-    gives_told view files manifest queries graph result loads (subst (λ f. IfSome f (λ told. PartGives view result (answered told queries graph))) kept gives)
+pub fails_before : {X Y : Type 0} (view : X → Y) (result : Result X Status) (status : Status) (part : Result Y Status) (next : Y → Result Job Status) → result ≡ Err status → PartGives view result part
+    → AnswersGive (Err status) (part >>~ next)
+fails_before view result status part next is gives = failed view status part next (subst (λ r. PartGives view r part) is gives)
+
+pub fails_told : {X Y F : Type 0} (view : X → Y) (files : Option F) (result : Result X Status) (status : Status) (part : F → Result Y Status) (next : F → Y → Result Job Status) → result ≡ Err status
+    → IfSome files (λ told. PartGives view result (part told)) → IfSome files (λ told. AnswersGive (Err status) (part told >>~ next told))
+fails_told view None result status part next is gives = tt
+fails_told view (Some told) result status part next is gives = fails_before view result status (part told) (next told) is gives
+
+-- a step that goes well, before another
+pub goes_on : {Y : Type 0} (part : Result Y Status) (x : Y) (next : Y → Result Job Status) (result : Result Replies Status) → part ≡ Ok x → AnswersGive result (next x) → AnswersGive result (part >>~ next)
+goes_on part x next result is gives = rw is gives
+
+pub goes_on_told : {Y F : Type 0} (files left : Option F) (part : F → Result Y Status) (x : Y) (next : F → Y → Result Job Status) (result : Result Replies Status) → left ≡ files
+    → IfSome files (λ told. part told ≡ Ok x) → IfSome left (λ told. AnswersGive result (next told x)) → IfSome files (λ told. AnswersGive result (part told >>~ next told))
+goes_on_told None left part x next result kept is gives = tt
+goes_on_told (Some told) left part x next result kept is gives =
+    goes_on (part told) x (next told) result is (subst (λ f. IfSome f (λ told'. AnswersGive result (next told' x))) kept gives)
+
+-- what was answered
+pub answered : (graph : PropertyGraph) (schema : SchemaLists) (texts : List (List ℕ)) (text : List ℕ) (places : List (ℕ × ℕ)) (last : List (List ℕ)) (replies : Replies)
+    → few_places (pieces text) ≡ Ok places → AreReplies graph schema text 1 places texts last (map (λ t. t.items) replies.texts.items) replies.refused
+    → AnswersGive (Ok replies) (job_of_text graph schema texts text)
+answered graph schema texts text places last replies is are =
+    (record { graph = graph; schema = schema; texts = texts; file = text; places = places }, rw is refl, (last, are))
+
+-- the graph of the tables means something under their texts
+pub shown_of : (graph : PropertyGraph) → IsWhole graph → HasShown graph.texts (without_texts graph)
+shown_of graph whole = record { vertices_shown = whole.vertices_shown; edges_shown = whole.edges_shown }
+
+-- ---- causes
 
 -- what rose since the middle rose since the start
 Rose-earlier : (start middle now : ℕ) → start ≤ middle → Rose middle now → Rose start now
@@ -97,3 +133,137 @@ place_among first last low high status a b h = tt
 pub place_in : {X : Type 0} (first last low high : ℕ) (result : Result X Status) → low ≤ first → last ≤ high → IfErr result (FailsAt first last) → IfErr result (FailsAt low high)
 place_in first last low high (Ok x) a b h = tt
 place_in first last low high (Err status) a b h = place_among first last low high status a b h
+
+-- ---- the work on a text
+
+-- it reads no file
+of_text_cause : {F : Type 0} (status : Status) (files : Option F) (faults faults_now misses misses_now : ℕ) → IsOfText status → StoreCause status files faults faults_now misses misses_now
+of_text_cause NoMemory files faults faults_now misses misses_now is = tt
+of_text_cause (Limit quantity number) files faults faults_now misses misses_now is = tt
+of_text_cause Done files faults faults_now misses misses_now is = absurd is
+of_text_cause SomeRefused files faults faults_now misses misses_now is = absurd is
+of_text_cause (Usage word) files faults faults_now misses misses_now is = absurd is
+of_text_cause (variant.TableFault file row column code cell) files faults faults_now misses misses_now is = absurd is
+of_text_cause (ReadFault file) files faults faults_now misses misses_now is = absurd is
+of_text_cause (Missing file) files faults faults_now misses misses_now is = absurd is
+of_text_cause WriteFault files faults faults_now misses misses_now is = absurd is
+
+of_text_files : (status : Status) → IsOfText status → IsOfFiles status
+of_text_files NoMemory is = tt
+of_text_files (Limit quantity number) is = tt
+of_text_files Done is = is
+of_text_files SomeRefused is = is
+of_text_files (Usage word) is = is
+of_text_files (variant.TableFault file row column code cell) is = tt
+of_text_files (ReadFault file) is = tt
+of_text_files (Missing file) is = tt
+of_text_files WriteFault is = is
+
+of_text_place : (status : Status) (first last : ℕ) → IsOfText status → FailsAt first last status
+of_text_place NoMemory first last is = tt
+of_text_place (Limit quantity number) first last is = tt
+of_text_place Done first last is = tt
+of_text_place SomeRefused first last is = tt
+of_text_place (Usage word) first last is = tt
+of_text_place (variant.TableFault file row column code cell) first last is = tt
+of_text_place (ReadFault file) first last is = absurd is
+of_text_place (Missing file) first last is = tt
+of_text_place WriteFault first last is = tt
+
+pub text_cause : {X F : Type 0} (result : Result X Status) (files : Option F) (faults faults_now misses misses_now : ℕ) → IfErr result IsOfText
+    → IfErr result (λ status. StoreCause status files faults faults_now misses misses_now)
+text_cause (Ok x) files faults faults_now misses misses_now is = tt
+text_cause (Err status) files faults faults_now misses misses_now is = of_text_cause status files faults faults_now misses misses_now is
+
+pub text_files : {X : Type 0} (result : Result X Status) → IfErr result IsOfText → IfErr result IsOfFiles
+text_files (Ok x) is = tt
+text_files (Err status) is = of_text_files status is
+
+pub text_place : {X : Type 0} (result : Result X Status) (first last : ℕ) → IfErr result IsOfText → IfErr result (FailsAt first last)
+text_place (Ok x) first last is = tt
+text_place (Err status) first last is = of_text_place status first last is
+
+-- ---- puts
+
+-- the first text, and the others behind it
+pub joined-first : (texts others : List (Vec ℕ Global)) (text : Vec ℕ Global) → texts ≡ text ∷ others → joined (map (λ t. t.items) texts) ≡ text.items ++ joined (map (λ t. t.items) others)
+joined-first texts others text is = ap (λ ts. joined (map (λ t. t.items) ts)) is
+
+twice : (held : Option (List ℕ)) (first second : List ℕ) → took (took held first) second ≡ took held (first ++ second)
+twice None first second = refl
+twice (Some held) first second = ap Some (append_assoc held first second)
+
+-- a front of the first text is a front of all
+pub front_of_first : (texts others : List (Vec ℕ Global)) (text : Vec ℕ Global) (old new : Option (List ℕ)) → texts ≡ text ∷ others → TookFront old text.items new
+    → TookFront old (joined (map (λ t. t.items) texts)) new
+front_of_first texts others text old new is front =
+    let n = min front.0 (length text.items) in
+    (n, front.1 ∙ ap (took old) (short front.0 text.items (joined (map (λ t. t.items) others)) ∙ ap (take n) (sym (joined-first texts others text is)))) where
+      short : (n : ℕ) (xs ys : List ℕ) → take n xs ≡ take (min n (length xs)) (xs ++ ys)
+      short n xs ys = grind (arith, common_steps, take-append-le (min n (length xs)) xs ys, take_min n xs)
+
+-- the first text whole, and a front of the others
+pub front_of_others : (texts others : List (Vec ℕ Global)) (text : Vec ℕ Global) (old mid new : Option (List ℕ)) → texts ≡ text ∷ others → mid ≡ took old text.items
+    → TookFront mid (joined (map (λ t. t.items) others)) new → TookFront old (joined (map (λ t. t.items) texts)) new
+front_of_others texts others text old mid new is is_mid front = (
+  length text.items + front.0,
+  front.1 ∙ ap (λ held. took held (take front.0 (joined (map (λ t. t.items) others)))) is_mid
+      ∙ twice old text.items (take front.0 (joined (map (λ t. t.items) others)))
+      ∙ ap (took old) (sym (take-append-add text.items (joined (map (λ t. t.items) others)) front.0) ∙ ap (take (length text.items + front.0)) (sym (joined-first texts others text is))),
+)
+
+-- a run that came to its puts
+puts_of : (status : Status) (replies : Replies) (outcome : Result Job Status) (old new : Option (List ℕ)) → AnswersGive (Ok replies) outcome → EndsPuts status replies old new
+    → Puts status outcome old new
+puts_of Done replies outcome old new gives ends =
+    (gives.0, map (λ text. text.items) replies.texts.items, gives.1, subst (IsAnswered gives.0 (map (λ text. text.items) replies.texts.items)) ends.0 gives.2, ends.1)
+puts_of SomeRefused replies outcome old new gives ends =
+    (gives.0, map (λ text. text.items) replies.texts.items, gives.1, subst (IsAnswered gives.0 (map (λ text. text.items) replies.texts.items)) ends.0 gives.2, ends.1)
+puts_of WriteFault replies outcome old new gives ends = (gives.0, map (λ text. text.items) replies.texts.items, replies.refused, gives.1, gives.2, ends)
+puts_of (Usage word) replies outcome old new gives ends = absurd ends
+puts_of (variant.TableFault file row column code cell) replies outcome old new gives ends = absurd ends
+puts_of (ReadFault file) replies outcome old new gives ends = absurd ends
+puts_of (Missing file) replies outcome old new gives ends = absurd ends
+puts_of NoMemory replies outcome old new gives ends = absurd ends
+puts_of (Limit quantity number) replies outcome old new gives ends = absurd ends
+
+pub puts_told : (files : Option Files) (words : List (List ℕ)) (options : List ℕ × List ℕ) (status : Status) (replies : Replies) (old new : Option (List ℕ)) → options_of words ≡ Ok options
+    → IfSome files (λ told. AnswersGive (Ok replies) (job_of_files told options)) → EndsPuts status replies old new → IfSome files (λ told. Puts status (job_of words told) old new)
+puts_told None words options status replies old new is gives ends = tt
+puts_told (Some told) words options status replies old new is gives ends =
+    puts_of status replies (job_of words told) old new (subst (λ said. AnswersGive (Ok replies) (with_usage said >>~ job_of_files told)) (sym is) gives) ends
+
+-- such a run has no other status
+pub ends_store : {F : Type 0} (status : Status) (replies : Replies) (old new : Option (List ℕ)) (files : Option F) (faults faults_now misses misses_now : ℕ) → EndsPuts status replies old new
+    → StoreCause status files faults faults_now misses misses_now
+ends_store Done replies old new files faults faults_now misses misses_now ends = tt
+ends_store SomeRefused replies old new files faults faults_now misses misses_now ends = tt
+ends_store WriteFault replies old new files faults faults_now misses misses_now ends = tt
+ends_store (Usage word) replies old new files faults faults_now misses misses_now ends = absurd ends
+ends_store (variant.TableFault file row column code cell) replies old new files faults faults_now misses misses_now ends = absurd ends
+ends_store (ReadFault file) replies old new files faults faults_now misses misses_now ends = absurd ends
+ends_store (Missing file) replies old new files faults faults_now misses misses_now ends = absurd ends
+ends_store NoMemory replies old new files faults faults_now misses misses_now ends = absurd ends
+ends_store (Limit quantity number) replies old new files faults faults_now misses misses_now ends = absurd ends
+
+pub ends_quiet : (status : Status) (replies : Replies) (old new : Option (List ℕ)) → EndsPuts status replies old new → PutsNothing status old new
+ends_quiet Done replies old new ends = tt
+ends_quiet SomeRefused replies old new ends = tt
+ends_quiet WriteFault replies old new ends = tt
+ends_quiet (Usage word) replies old new ends = absurd ends
+ends_quiet (variant.TableFault file row column code cell) replies old new ends = absurd ends
+ends_quiet (ReadFault file) replies old new ends = absurd ends
+ends_quiet (Missing file) replies old new ends = absurd ends
+ends_quiet NoMemory replies old new ends = absurd ends
+ends_quiet (Limit quantity number) replies old new ends = absurd ends
+
+pub ends_place : (status : Status) (replies : Replies) (old new : Option (List ℕ)) (first last : ℕ) → EndsPuts status replies old new → FailsAt first last status
+ends_place Done replies old new first last ends = tt
+ends_place SomeRefused replies old new first last ends = tt
+ends_place WriteFault replies old new first last ends = tt
+ends_place (Usage word) replies old new first last ends = absurd ends
+ends_place (variant.TableFault file row column code cell) replies old new first last ends = absurd ends
+ends_place (ReadFault file) replies old new first last ends = absurd ends
+ends_place (Missing file) replies old new first last ends = absurd ends
+ends_place NoMemory replies old new first last ends = absurd ends
+ends_place (Limit quantity number) replies old new first last ends = absurd ends

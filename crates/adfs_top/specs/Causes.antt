@@ -1,21 +1,49 @@
 -- When each status comes, and what was put by then.
-use Rattle.std.specs.Prelude.{◌≡◌, ◌≤◌, ℕ, List, Option, Result, Ok, Err, MatchOption}
+use Rattle.std.specs.Prelude.{◌≡◌, ◌≤◌, ℕ, Bool, true, false, List, map, Option, Result, Ok, Err, MatchOption}
+use Rattle.std.specs.List.{flat_map}
 use Rattle.adfs_base.specs.Counts.{Rose}
 use Rattle.adfs_base.specs.Bytes.{took, TookFront}
+use Rattle.query_replies.specs.Replies.{AreReplies}
+use Rattle.query_replies.specs.declared.answers.Replies.{Replies}
+use Rattle.adfs_top.specs.Outcome.{Job}
 use Rattle.adfs_top.specs.declared.status.Status.{Status}
-use Rattle.adfs_top.specs.declared.status.Status.TheVariants.{Done, Usage, TableFault, ReadFault, Missing, WriteFault, NoMemory, Limit, NotBuilt}
+use Rattle.adfs_top.specs.declared.status.Status.TheVariants.{Done, SomeRefused, Usage, TableFault, ReadFault, Missing, WriteFault, NoMemory, Limit}
+
+-- The queries are answered so, and whether one of them is refused.
+abbrev pub IsAnswered : Job → List (List ℕ) → Bool → Type 0
+IsAnswered job replies refused = (texts : List (List ℕ)) × AreReplies job.graph job.schema job.file 1 job.places job.texts texts replies refused
+
+abbrev pub joined : List (List ℕ) → List ℕ
+joined replies = flat_map (λ reply. reply) replies
+
+-- All replies were put, one after the other; and whether one of them is a refusal.
+abbrev pub PutsAll : Bool → Result Job Status → Option (List ℕ) → Option (List ℕ) → Type 0
+PutsAll refused outcome old new = (job : Job) × (replies : List (List ℕ)) × (outcome ≡ Ok job) × IsAnswered job replies refused × (new ≡ took old (joined replies))
+
+-- A front of all replies was put.
+abbrev pub PutsFront : Result Job Status → Option (List ℕ) → Option (List ℕ) → Type 0
+PutsFront outcome old new = (job : Job) × (replies : List (List ℕ)) × (refused : Bool) × (outcome ≡ Ok job) × IsAnswered job replies refused × TookFront old (joined replies) new
 
 -- What is put by a run that comes to this outcome. A read fault and want of memory may come whatever the outcome is.
-abbrev pub Puts : Status → Result (List ℕ) Status → Option (List ℕ) → Option (List ℕ) → Type 0
-Puts Done outcome old new = (text : List ℕ) × (outcome ≡ Ok text) × (new ≡ took old text)
-Puts WriteFault outcome old new = (text : List ℕ) × (outcome ≡ Ok text) × TookFront old text new
+abbrev pub Puts : Status → Result Job Status → Option (List ℕ) → Option (List ℕ) → Type 0
+Puts Done outcome old new = PutsAll false outcome old new
+Puts SomeRefused outcome old new = PutsAll true outcome old new
+Puts WriteFault outcome old new = PutsFront outcome old new
 Puts (ReadFault file) outcome old new = new ≡ old
 Puts NoMemory outcome old new = new ≡ old
 Puts status outcome old new = (outcome ≡ Err status) × (new ≡ old)
 
+-- How the putting of replies ends, and what it leaves.
+abbrev pub EndsPuts : Status → Replies → Option (List ℕ) → Option (List ℕ) → Type 0
+EndsPuts Done replies old new = (replies.refused ≡ false) × (new ≡ took old (joined (map (λ text. text.items) replies.texts.items)))
+EndsPuts SomeRefused replies old new = (replies.refused ≡ true) × (new ≡ took old (joined (map (λ text. text.items) replies.texts.items)))
+EndsPuts WriteFault replies old new = TookFront old (joined (map (λ text. text.items) replies.texts.items)) new
+EndsPuts status replies old new = ⊥
+
 -- Nothing was put, unless the run came to its writing.
 abbrev pub PutsNothing : Status → Option (List ℕ) → Option (List ℕ) → Type 0
 PutsNothing Done old new = Unit {0}
+PutsNothing SomeRefused old new = Unit {0}
 PutsNothing WriteFault old new = Unit {0}
 PutsNothing status old new = new ≡ old
 
@@ -37,9 +65,23 @@ PartGives view (Err (ReadFault file)) part = Unit {0}
 PartGives view (Err NoMemory) part = Unit {0}
 PartGives view (Err status) part = part ≡ Err status
 
+-- What a part of the run that answers queries gives, against its definition.
+abbrev pub AnswersGive : Result Replies Status → Result Job Status → Type 0
+AnswersGive (Ok replies) part = (job : Job) × (part ≡ Ok job) × IsAnswered job (map (λ text. text.items) replies.texts.items) replies.refused
+AnswersGive (Err (ReadFault file)) part = Unit {0}
+AnswersGive (Err NoMemory) part = Unit {0}
+AnswersGive (Err status) part = part ≡ Err status
+
 -- a status of the work between the words and the writing
 abbrev pub IsOfFiles : Status → Type 0
 IsOfFiles Done = ⊥
+IsOfFiles SomeRefused = ⊥
 IsOfFiles WriteFault = ⊥
 IsOfFiles (Usage word) = ⊥
 IsOfFiles status = Unit {0}
+
+-- a status of the work on a text that was read
+abbrev pub IsOfText : Status → Type 0
+IsOfText NoMemory = Unit {0}
+IsOfText (Limit quantity number) = Unit {0}
+IsOfText status = ⊥

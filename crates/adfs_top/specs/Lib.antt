@@ -1,11 +1,5 @@
-pub mod Answer
-pub mod Assignments
 pub mod Causes
 pub mod Faults
-pub mod Order
 pub mod Outcome
-pub mod Query
-pub mod Rows
 pub mod StatusLine
-pub mod Text
 pub mod Words

@@ -4,10 +4,11 @@ use Rattle.std.specs.Fmt.{decimal}
 use Rattle.graph_tables.specs.declared.faults.Quantity.{Quantity}
 use Rattle.graph_tables.specs.declared.faults.Quantity.TheVariants as quantity
 use Rattle.adfs_top.specs.declared.status.Status.{Status}
-use Rattle.adfs_top.specs.declared.status.Status.TheVariants.{Done, Usage, TableFault, ReadFault, Missing, WriteFault, NoMemory, Limit, NotBuilt}
+use Rattle.adfs_top.specs.declared.status.Status.TheVariants.{Done, SomeRefused, Usage, TableFault, ReadFault, Missing, WriteFault, NoMemory, Limit}
 
 abbrev pub status_number : Status → ℕ
 status_number Done = 0
+status_number SomeRefused = 1
 status_number (Usage word) = 2
 status_number (TableFault file row column code cell) = 3
 status_number (ReadFault file) = 4
@@ -15,7 +16,6 @@ status_number (Missing file) = 5
 status_number WriteFault = 6
 status_number NoMemory = 7
 status_number (Limit quantity number) = 8
-status_number (NotBuilt what) = 10
 
 abbrev pub quantity_name : Quantity → List ℕ
 quantity_name quantity.FileBytes = codes "FileBytes"
@@ -36,6 +36,7 @@ line_feed = 10 ∷ []
 -- the line, with its line feed; nothing where all went well
 abbrev pub status_line : Status → List ℕ
 status_line Done = []
+status_line SomeRefused = []
 status_line (Usage word) = numbered (codes "adfs: word ") word (codes " is outside the form" ++ line_feed)
 status_line (TableFault file row column code cell) =
     numbered (codes "adfs: file ") file
@@ -48,4 +49,3 @@ status_line (Missing file) = numbered (codes "adfs: file ") file (codes " missin
 status_line WriteFault = codes "adfs: write fault" ++ line_feed
 status_line NoMemory = codes "adfs: no memory" ++ line_feed
 status_line (Limit quantity number) = codes "adfs: limit " ++ (quantity_name quantity ++ numbered (codes " ") number line_feed)
-status_line (NotBuilt what) = numbered (codes "adfs: not built ") what line_feed

@@ -10,8 +10,10 @@ use std::alloc::{AllocError, Global};
 /// file.
 #[derive(Clone, Copy, Debug, PartialEq, Eq)]
 pub enum Status {
-    /// All went well, and the reply was put whole.
+    /// All went well: each query was answered, and all replies were put whole.
     Done,
+    /// All went well, but some queries are refused: their lines tell why. All replies were put whole.
+    SomeRefused,
     /// The words are outside the form, from the one at this place on. Places count from 0. It is the number of
     /// words where some are missing.
     Usage {
@@ -36,7 +38,7 @@ pub enum Status {
     Missing {
         file: u32,
     },
-    /// The sink failed. It took a front of the reply, which may be empty.
+    /// The sink failed. It took a front of the replies, which may be empty.
     WriteFault,
     /// Memory ran out, and nothing was put.
     NoMemory,
@@ -44,10 +46,6 @@ pub enum Status {
     Limit {
         quantity: Quantity,
         number: u64,
-    },
-    /// The query file isn't the one that is answered so far.
-    NotBuilt {
-        what: u32,
     },
 }
 
@@ -66,13 +64,14 @@ fn quantity_name(quantity: Quantity) -> &'static str
 }
 
 impl Status {
-    /// The number with which the program ends: 0 `Done`, 2 `Usage`, 3 `TableFault`, 4 `ReadFault`, 5 `Missing`,
-    /// 6 `WriteFault`, 7 `NoMemory`, 8 `Limit`, 10 `NotBuilt`.
+    /// The number with which the program ends: 0 `Done`, 1 `SomeRefused`, 2 `Usage`, 3 `TableFault`, 4 `ReadFault`,
+    /// 5 `Missing`, 6 `WriteFault`, 7 `NoMemory`, 8 `Limit`.
     pub fn number(&self) -> u32
         ensures { result ≡ status_number self.now }
     {
         match self {
             Status::Done => 0,
+            Status::SomeRefused => 1,
             Status::Usage { .. } => 2,
             Status::TableFault { .. } => 3,
             Status::ReadFault { .. } => 4,
@@ -80,7 +79,6 @@ impl Status {
             Status::WriteFault => 6,
             Status::NoMemory => 7,
             Status::Limit { .. } => 8,
-            Status::NotBuilt { .. } => 10,
         }
     }
 
@@ -89,7 +87,7 @@ impl Status {
         ensures { IfOk result (λ line. string_bytes line ≡ status_line self.now) }
     {
         match self {
-            Status::Done => Ok(String::new(alloc)),
+            Status::Done | Status::SomeRefused => Ok(String::new(alloc)),
             Status::Usage { word } => format!(in alloc; "adfs: word {word} is outside the form\n"),
             Status::TableFault {
                 file,
@@ -110,11 +108,11 @@ impl Status {
                 let name = quantity_name(*quantity);
                 format!(in alloc; "adfs: limit {name} {number}\n")
             }
-            Status::NotBuilt { what } => format!(in alloc; "adfs: not built {what}\n"),
         }
     }
 
-    /// Appends the status's line for a user, with a line feed, and nothing for `Done`. After `NoMemory` `out` is as
+    /// Appends the status's line for a user, with a line feed, and nothing for `Done` and
+    /// `SomeRefused`. After `NoMemory` `out` is as
     /// before.
     pub fn put_line(&self, alloc: Global, out: &mut Vec<u8>) -> Result<(), NoMemory>
         ensures ok { OnOk result (out.new.items ≡ out.old.items ++ status_line self.now) }

@@ -1,4 +1,5 @@
 mod keys_only;
+mod queries;
 mod refused_at_once;
 mod status_line;
 mod support;

@@ -1,7 +1,5 @@
 // One query over two tables of keys.
-use super::support::{
-    KNOWS, MANIFEST, PEOPLE, QUERY, REPLY, comes_to, failing_sink, sink, store, tables,
-};
+use super::support::{KNOWS, PEOPLE, QUERY, REPLY, comes_to, failing_sink, sink, store, tables};
 use crate::Status;
 use std::test::Fail;
 
@@ -58,20 +56,5 @@ fn keys_only_failing_put(rt: HostRuntime) -> Result<(), Fail> {
     let store = tables(alloc, PEOPLE, KNOWS, Vec::new(alloc))?;
     let sink = failing_sink(alloc, vec![in alloc; 1]?, 4)?;
     assert!(rt; comes_to(alloc, RUN, store, sink, Status::WriteFault, "quer")?);
-    Ok(())
-}
-
-#[test]
-fn another_query_is_not_built(rt: HostRuntime) -> Result<(), Fail> {
-    let alloc = rt.alloc();
-    let files = [
-        ("graph.txt", MANIFEST),
-        ("people.csv", PEOPLE),
-        ("knows.csv", KNOWS),
-        ("q.txt", "SELECT id(a) MATCH (a);\n"),
-    ];
-    let store = store(alloc, &files, Vec::new(alloc))?;
-    let status = Status::NotBuilt { what: 257 };
-    assert!(rt; comes_to(alloc, RUN, store, sink(alloc)?, status, "")?);
     Ok(())
 }

@@ -7,6 +7,7 @@ use std::test::Fail;
 fn each_status_has_its_line(rt: HostRuntime) -> Result<(), Fail> {
     for (status, number, line) in [
         (Status::Done, 0, ""),
+        (Status::SomeRefused, 1, ""),
         (
             Status::Usage { word: 2 },
             2,
@@ -39,7 +40,6 @@ fn each_status_has_its_line(rt: HostRuntime) -> Result<(), Fail> {
         (Status::Missing { file: 257 }, 5, "adfs: file 257 missing\n"),
         (Status::WriteFault, 6, "adfs: write fault\n"),
         (Status::NoMemory, 7, "adfs: no memory\n"),
-        (Status::NotBuilt { what: 257 }, 10, "adfs: not built 257\n"),
     ] {
         let mut out = b"before".as_slice().to_vec(rt.alloc())?;
         status.put_line(rt.alloc(), &mut out)?;

@@ -48,6 +48,49 @@ pub fn tables<'a>(
     store(alloc, &files, failing)
 }
 
+/// A store with the manifest, two tables of people with names and ages, and these queries.
+pub fn people<'a>(
+    alloc: Global,
+    queries: &'a str,
+    failing: Vec<u64>,
+) -> Result<MemStore, NoMemory> {
+    let files = [
+        ("graph.txt", MANIFEST),
+        (
+            "people.csv",
+            "id:int,name:text,age:int\n1,Ann,30\n2,Bob,25\n3,Cy,\n4,Dee,41\n",
+        ),
+        ("knows.csv", KNOWS),
+        ("q.txt", queries),
+    ];
+    store(alloc, &files, failing)
+}
+
+/// A store with the tables of a town and these queries.
+pub fn town<'a>(alloc: Global, queries: &'a str) -> Result<MemStore, NoMemory> {
+    let files = [
+        (
+            "graph.txt",
+            "adfs 1\nvertices person people.csv\nvertices city cities.csv\nedges knows knows.csv\nedges lives lives.csv\n",
+        ),
+        (
+            "people.csv",
+            "id:int,name:text,born:date\n1,Ann,1990-05-01\n2,Bob,1985-12-24\n3,\"Cy, Jr\",\n",
+        ),
+        ("cities.csv", "id:int,name:text\n100,Bern\n101,Oslo\n"),
+        (
+            "knows.csv",
+            "id:int,source:int,target:int\n10,1,2\n11,2,3\n12,1,3\n",
+        ),
+        (
+            "lives.csv",
+            "id:int,source:int,target:int,since:date\n20,1,100,2010-01-01\n21,2,100,2015-06-30\n22,3,101,\n",
+        ),
+        ("q.txt", queries),
+    ];
+    store(alloc, &files, Vec::new(alloc))
+}
+
 /// A sink with ample room, none of whose puts fails.
 pub fn sink(alloc: Global) -> Result<MemSink, NoMemory> {
     MemSink::new(alloc, Vec::new(alloc), 0, ROOM)

@@ -106,33 +106,3 @@ fn too_many_tables_and_no_manifest(rt: HostRuntime) -> Result<(), Fail> {
     assert!(rt; comes_to(alloc, RUN, store, sink(alloc)?, missing, "")?);
     Ok(())
 }
-
-const TOWN: [(&str, &str); 6] = [
-    (
-        "graph.txt",
-        "adfs 1\nvertices person people.csv\nvertices city cities.csv\nedges knows knows.csv\nedges lives lives.csv\n",
-    ),
-    (
-        "people.csv",
-        "id:int,name:text,born:date\n1,Ann,1990-05-01\n2,Bob,1985-12-24\n3,\"Cy, Jr\",\n",
-    ),
-    ("cities.csv", "id:int,name:text\n100,Bern\n101,Oslo\n"),
-    (
-        "knows.csv",
-        "id:int,source:int,target:int\n10,1,2\n11,2,3\n12,1,3\n",
-    ),
-    (
-        "lives.csv",
-        "id:int,source:int,target:int,since:date\n20,1,100,2010-01-01\n21,2,100,2015-06-30\n22,3,101,\n",
-    ),
-    ("q.txt", QUERY),
-];
-
-#[test]
-fn tables_of_friends_in_one_town(rt: HostRuntime) -> Result<(), Fail> {
-    let alloc = rt.alloc();
-    let store = store(alloc, &TOWN, Vec::new(alloc))?;
-    let held = "query 1 rows 6\nid(a),id(b)\n1,2\n1,3\n1,100\n2,3\n2,100\n3,101\n";
-    assert!(rt; comes_to(alloc, RUN, store, sink(alloc)?, Status::Done, held)?);
-    Ok(())
-}
