@@ -1,5 +1,5 @@
 -- Flags as bits.
-use Rattle.std.proofs.Common.{take, min, ◌≡◌, ◌≢◌, ◌∙◌, sym, ap, refl, rules, arith, ◌<◌, ◌≤◌, ◌+◌, ◌*◌, ◌/◌, ◌%◌, ℕ, zero, suc, Bool, List, [], ◌∷◌, ◌++◌, length, get_or, slice_get, set, get_or-set_other, get_or-set_same, add-one, Option, Some, None, ◌==◌, length-append, inl, inr, ◌⊎◌}
+use Rattle.std.proofs.Common.{take, min, ◌≡◌, ◌≢◌, ◌∙◌, sym, ap, refl, arith, ◌<◌, ◌≤◌, ◌+◌, ◌*◌, ◌/◌, ◌%◌, ℕ, zero, suc, List, [], ◌∷◌, ◌++◌, length, get_or, slice_get, set, get_or-set_other, get_or-set_same, add-one, Some, ◌==◌, length-append, inl, inr, ◌⊎◌}
 use Rattle.std.proofs.lemmas.Bool.{cases_lt}
 use Rattle.std.proofs.lemmas.List.{get_or-take, get_or_append_left, length-take-le, take-append-le, take_all}
 use Rattle.std.specs.Int.{bit_at}

@@ -1,5 +1,5 @@
 -- Words that may be missing, as they grow and shrink.
-use Rattle.std.proofs.Common.{◌≡◌, ◌∙◌, sym, ap, refl, arith, ◌<◌, ℕ, zero, suc, Bool, true, false, cond, List, [], ◌∷◌, ◌++◌, length, take, slice_get, slice_index_or, Option, Some, None, is_some, unwrap_or}
+use Rattle.std.proofs.Common.{◌≡◌, ap, refl, arith, ℕ, zero, suc, Bool, cond, List, [], ◌∷◌, ◌++◌, length, take, slice_get, slice_index_or, Option, Some, None, is_some, unwrap_or}
 use Rattle.element_store.specs.Cells.{words_where}
 
 pub length-words_where : (bs : List Bool) (ws : List ℕ) → length bs ≡ length ws → length (words_where bs ws) ≡ length ws

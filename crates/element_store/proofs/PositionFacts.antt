@@ -1,11 +1,11 @@
 -- Keys by their places.
-use Rattle.std.proofs.Common.{◌≡◌, ◌∙◌, ◌≤◌, refl, arith, ◌+◌, ℕ, suc, Bool, true, false, cond, not, ◌||◌, nat_lt, List, [], ◌∷◌, ◌++◌, length, position, Option, Some, None}
+use Rattle.std.proofs.Common.{◌≡◌, ◌∙◌, ◌≤◌, refl, arith, ◌+◌, ℕ, suc, Bool, true, false, cond, not, ◌||◌, nat_lt, List, [], ◌∷◌, ◌++◌, length, position, Some, None}
 use Rattle.std.proofs.lemmas.Bool.Decides.{nat_tests}
 use Rattle.std.specs.List.{list_any, position_or_len}
 use Rattle.std.specs.Map.{keys_of}
 use Rattle.indexmap.specs.IndexMap.{insert_entry}
 
-any_place : {X : Type 0} (p : X → Bool) (ks : List X) → list_any p ks ≡ nat_lt (position_or_len p ks) (length ks)
+pub any_place : {X : Type 0} (p : X → Bool) (ks : List X) → list_any p ks ≡ nat_lt (position_or_len p ks) (length ks)
 any_place p [] = refl
 any_place {X} p (k ∷ ks) = by (p k) (any_place p ks)
   where

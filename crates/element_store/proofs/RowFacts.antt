@@ -1,5 +1,5 @@
 -- Rows of cells that lie row after row.
-use Rattle.std.proofs.Common.{◌≡◌, ◌∙◌, sym, ap, refl, arith, ◌<◌, ◌≤◌, ◌+◌, ◌*◌, ◌-◌, ℕ, zero, suc, Bool, true, false, cond, not, nat_eq, nat_lt, List, [], ◌∷◌, ◌++◌, length, take, drop, position, slice_get, Option, Some, None, length-append, length-drop, add-one}
+use Rattle.std.proofs.Common.{◌≡◌, ◌∙◌, sym, ap, refl, arith, ◌<◌, ◌≤◌, ◌+◌, ◌*◌, ℕ, zero, suc, Bool, true, false, cond, not, nat_eq, List, [], ◌∷◌, ◌++◌, length, take, drop, slice_get, Option, Some, length-append, length-drop, add-one}
 use Rattle.std.proofs.Math.Nat.{suc-mul}
 use Rattle.std.proofs.lemmas.List.{drop-append-le, length-take-le, take-append-drop, take-append-le, take_all}
 use Rattle.std.proofs.lemmas.Option.{slice_get_within}
@@ -7,7 +7,7 @@ use Rattle.std.specs.List.{position_or_len}
 use Rattle.std.specs.Map.{keys_of}
 use Rattle.adfs_base.specs.declared.value.Value.{Value}
 use Rattle.adfs_base.specs.declared.value.Value.TheVariants as value
-use Rattle.element_store.specs.Columns.{Column, HaveKinds, column_of, named, value_of}
+use Rattle.element_store.specs.Columns.{Column, HaveKinds, named, value_of}
 use Rattle.element_store.specs.Tables.{AddsRow, rows_of, values_of}
 use Rattle.element_store.specs.Words.{HasKind, value_from}
 
@@ -60,7 +60,7 @@ take_within (suc n) [] i x h e = cc e
 take_within (suc n) (y ∷ xs) zero x h e = e
 take_within (suc n) (y ∷ xs) (suc i) x h e = take_within n xs i x (omega arith) e
 
-dropped : {A : Type 0} (n : ℕ) (xs : List A) (i : ℕ) → slice_get (drop n xs) i ≡ slice_get xs (n + i)
+pub dropped : {A : Type 0} (n : ℕ) (xs : List A) (i : ℕ) → slice_get (drop n xs) i ≡ slice_get xs (n + i)
 dropped zero xs i = let same : 0 + i ≡ i = omega arith in rw same refl
 dropped (suc n) [] i = refl
 dropped (suc n) (x ∷ xs) i = let next : suc n + i ≡ suc (n + i) = omega arith in rw next (dropped n xs i)
@@ -185,3 +185,7 @@ rows_after columns n values old new total adds =
 
 pub total_after : (n w a b : ℕ) → a ≡ n * w → b ≡ a + w → b ≡ (n + 1) * w
 total_after n w a b e f = rw (add-one n) (f ∙ rw e (sym (suc-mul n w)))
+
+-- one more of the cells from a place on
+pub cell_taken : (start i : ℕ) (cells : List (Option ℕ)) (cell : Option ℕ) → slice_get cells (start + i) ≡ Some cell → take (i + 1) (drop start cells) ≡ take i (drop start cells) ++ cell ∷ []
+cell_taken start i cells cell at = take_more i (drop start cells) cell (dropped start cells i ∙ at)

@@ -1,5 +1,6 @@
 pub mod Bits
 pub mod Cells
+pub mod Chosen
 pub mod Columns
 pub mod Elements
 pub mod Tables

@@ -1,6 +1,5 @@
 -- The rows of a table, from its cells.
-use Rattle.std.specs.Prelude.{◌≡◌, ℕ, zero, suc, ◌+◌, List, [], ◌∷◌, ◌++◌, length, take, drop, map, Option}
-use Rattle.std.specs.List.{flat_map}
+use Rattle.std.specs.Prelude.{◌≡◌, ℕ, zero, suc, ◌+◌, List, [], ◌∷◌, length, take, drop, map, Option}
 use Rattle.adfs_base.specs.declared.value.Value.{Value}
 use Rattle.element_store.specs.Columns.{Column, named}
 use Rattle.element_store.specs.Words.{value_from}

@@ -1,7 +1,7 @@
 -- Values as words, by their kind.
-use Rattle.std.specs.Prelude.{◌≡◌, ℕ, Bool, true, false, ◌==◌, ◌<◌, ℤ, pos, Option, Some, None, ◌%◌, ◌^◌}
+use Rattle.std.specs.Prelude.{◌≡◌, ℕ, ◌==◌, Option, Some, None, ◌%◌, ◌^◌}
 use Rattle.std.specs.Int.{w32, w64}
-use Rattle.std.specs.Int.{cast_signed, cast_unsigned}
+use Rattle.std.specs.Int.{cast_signed}
 use Rattle.adfs_base.specs.declared.value.Kind.{Kind}
 use Rattle.adfs_base.specs.declared.value.Kind.TheVariants as kind
 use Rattle.adfs_base.specs.declared.value.Value.{Value}

@@ -1,5 +1,5 @@
 //! The columns of a table.
-ghost use Rattle.std.specs.Prelude.{◌≡◌, ◌<◌, ◌^◌, ◌++◌, ◌∷◌, [], OnOk, OnErr, None, Some, length, slice_get};
+ghost use Rattle.std.specs.Prelude.{◌≡◌, ◌<◌, ◌^◌, ◌++◌, ◌∷◌, [], IfOk, OnOk, OnErr, None, Some, length, slice_get};
 ghost use Rattle.element_store.specs.Columns.{column_of};
 
 use adfs_base::Kind;
@@ -66,5 +66,17 @@ impl Columns {
     {
         self.kinds.insert(property, kind)?;
         Ok(())
+    }
+
+    /// A copy of the columns.
+    pub fn copied(&self, alloc: Global) -> Result<Columns, AllocError>
+        ensures { IfOk result (λ columns. columns ≡ self.now) }
+    {
+        let mut columns = Columns::new(alloc);
+        for i in 0..self.kinds.len() {
+            let (property, kind) = self.get(i);
+            columns.push(property, kind)?;
+        }
+        Ok(columns)
     }
 }

@@ -2,7 +2,8 @@
 ghost use Rattle.std.specs.Prelude.{◌≡◌, ◌<◌, ◌≤◌, ◌+◌, ◌-◌, ◌^◌, ◌++◌, ◌∷◌, [], OnOk, OnErr, None, Some, length, slice_get};
 ghost use Rattle.std.specs.Option.{option_map};
 ghost use Rattle.element_store.specs.Columns.{HaveKinds, named, value_of};
-ghost use Rattle.element_store.specs.Elements.{AreStacked, HasElement, cells_in, number_of};
+ghost use Rattle.element_store.specs.Chosen.{AreChosen};
+ghost use Rattle.element_store.specs.Elements.{AreStacked, HasElement, cells_in, filled, number_of};
 ghost use Rattle.element_store.specs.Tables.{labelled};
 ghost use Rattle.std.specs.List.{flat_map};
 
@@ -34,8 +35,8 @@ impl Model for Elements {
     ghost invariant = { λ a. AreFilled a.keys.keys a.tables.items a.cells };
 }
 
-// The table of an element.
-fn table_of(tables: &[Table], number: u32) -> &Table
+/// The table of an element.
+pub(crate) fn table_of(tables: &[Table], number: u32) -> &Table
     requires stacked { AreStacked 0 tables.now }
     requires within { number < length (flat_map labelled tables.now) }
     ensures { HasElement tables.now number result.now }
@@ -69,6 +70,14 @@ impl Elements {
         ensures { result ≡ cells_in self.now.elements }
     {
         self.cells
+    }
+
+    /// The keys, and the tables that have the rest.
+    pub(crate) fn parts(&self) -> (&[i64], &[Table])
+        ensures whole { self.now ≡ filled result.0.now result.1.now }
+        ensures rows { AreChosen result.0.now result.1.now }
+    {
+        (self.keys.as_slice(), &self.tables)
     }
 
     /// The columns of the last table.

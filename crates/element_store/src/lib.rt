@@ -14,6 +14,8 @@
 
 mod bits;
 mod cells;
+mod choice;
+mod chosen;
 mod columns;
 mod elements;
 mod table;
@@ -21,6 +23,8 @@ mod words;
 
 pub use bits::Bits;
 pub use cells::Cells;
+pub use choice::choose;
+pub use chosen::Chosen;
 pub use columns::Columns;
 pub use elements::Elements;
 pub use table::Table;

@@ -1,5 +1,5 @@
 //! One table of elements.
-ghost use Rattle.std.specs.Prelude.{◌≡◌, ◌<◌, ◌+◌, ◌-◌, ◌^◌, ◌++◌, ◌∷◌, [], OnOk, OnErr, Some, length, slice_get};
+ghost use Rattle.std.specs.Prelude.{◌≡◌, ◌<◌, ◌+◌, ◌-◌, ◌^◌, ◌++◌, ◌∷◌, [], OnOk, OnErr, Some, length, slice_get, slice_index_or, take, drop, ◌≤◌};
 ghost use Rattle.std.specs.Option.{option_map};
 ghost use Rattle.element_store.specs.Columns.{HaveKinds, named, value_of};
 ghost use Rattle.element_store.specs.Tables.{AddsRow};
@@ -79,6 +79,34 @@ impl Table {
         Ok(())
     }
 
+    /// Adds a row of another table, which has the same columns. After want of memory nothing has changed.
+    pub fn push_row(&mut self, from: &Table, row: u32) -> Result<(), AllocError>
+        requires same { from.now.columns ≡ self.old.columns }
+        requires row { row < length from.now.rows }
+        requires few { length self.old.rows < 2 ^ 32 - 1 }
+        ensures ok { OnOk result (self.new ≡ record {
+          first = self.old.first;
+          label = self.old.label;
+          columns = self.old.columns;
+          rows = self.old.rows ++ slice_index_or from.now.rows row [] ∷ [];
+        }) }
+        ensures err { OnErr result (self.new ≡ self.old) }
+    {
+        let width = from.columns.len();
+        // What `len` promises keeps the product below in range.
+        let _cells = from.cells.len();
+        copy_cells(&from.cells, row as usize * width, width, &mut self.cells)?;
+        self.rows += 1;
+        Ok(())
+    }
+
+    /// How many rows there are.
+    pub fn rows(&self) -> u32
+        ensures { result ≡ length self.now.rows }
+    {
+        self.rows
+    }
+
     /// The value that a row has of a property, which is null where the table has no such column.
     pub fn value(&self, row: u32, property: u32) -> Value
         requires { row < length self.now.rows }
@@ -110,6 +138,28 @@ fn push_row(columns: &Columns, values: &[Value], cells: &mut Cells) -> Result<()
         let (_, kind) = columns.get(i);
         if cells.push(word_of(values[i], kind)).is_err() {
             cells.truncate(start);
+            return Err(AllocError);
+        }
+    }
+    Ok(())
+}
+
+// Adds some cells of others, or none.
+fn copy_cells(
+    from: &Cells,
+    start: usize,
+    number: usize,
+    cells: &mut Cells,
+) -> Result<(), AllocError>
+    requires within { start + number ≤ length from.now }
+    requires fits { length from.now < 2 ^ 63 }
+    ensures ok { OnOk result (cells.new ≡ cells.old ++ take number (drop start from.now)) }
+    ensures err { OnErr result (cells.new ≡ cells.old) }
+{
+    let old = cells.len();
+    for i in 0..number {
+        if cells.push(from.get(start + i)).is_err() {
+            cells.truncate(old);
             return Err(AllocError);
         }
     }

@@ -1,7 +1,7 @@
 -- Faults that are handed on.
-use Rattle.std.proofs.Common.{◌≡◌, ◌∙◌, sym, refl, arith, ℕ, ◌≤◌, Option, Some, None, MatchOption, Result, Ok, Err}
+use Rattle.std.proofs.Common.{◌≡◌, refl, arith, ℕ, ◌≤◌, Option, Some, None, MatchOption, Result, Ok, Err}
 use Rattle.adfs_base.specs.Counts.{Rose}
-use Rattle.graph_tables.specs.Faults.{◌>>=◌, FailsAt, GivesFault, HasCause, LoadsFault, fault_of}
+use Rattle.graph_tables.specs.Faults.{◌>>=◌, FailsAt, GivesFault, HasCause, LoadsFault}
 use Rattle.graph_tables.specs.declared.faults.TableFault.{TableFault}
 use Rattle.graph_tables.specs.declared.faults.TableKind.{TableKind}
 use Rattle.graph_tables.specs.declared.faults.TableKind.TheVariants as kind

@@ -1,5 +1,5 @@
 -- Edges as elements and ends side by side.
-use Rattle.std.proofs.Common.{◌≡◌, ◌∙◌, sym, ap, refl, arith, ℕ, ℤ, zero, suc, List, [], ◌∷◌, ◌++◌, length, slice_get, slice_index_or, pos, Option, Some, None}
+use Rattle.std.proofs.Common.{◌≡◌, ap, refl, arith, ℕ, ℤ, zero, suc, List, [], ◌∷◌, ◌++◌, length, slice_get, pos, Option, Some}
 use Rattle.std.specs.List.{AllByRecursion}
 use Rattle.element_store.specs.Elements.{Element}
 use Rattle.graph_tables.specs.Graph.{Edge, EndsIn, without_ends}

@@ -1,9 +1,8 @@
 -- The columns of a header, one at a time.
-use Rattle.std.proofs.Common.{◌≡◌, ◌∙◌, sym, refl, arith, ◌<◌, ◌≤◌, ◌+◌, ℕ, List, [], ◌∷◌, length, drop, Option, Some, None, Result, Ok, Err}
+use Rattle.std.proofs.Common.{◌≡◌, ◌∙◌, sym, refl, ◌<◌, ◌≤◌, ◌+◌, ℕ, List, length, drop, Some, None, Result, Ok, Err}
 use Rattle.std.proofs.lemmas.List.{drop_all}
-use Rattle.graph_tables.specs.Faults.{◌>>=◌, GivesFault, fault_at}
-use Rattle.graph_tables.specs.Headers.{Heading, columns_from, header_cell, heading_of, key_columns, keys_first, or_bad, with_column}
-use Rattle.graph_tables.specs.Properties.{Property}
+use Rattle.graph_tables.specs.Faults.{◌>>=◌, fault_at}
+use Rattle.graph_tables.specs.Headers.{Heading, columns_from, header_cell, or_bad, with_column}
 use Rattle.graph_tables.specs.Rows.{cell_at}
 use Rattle.graph_tables.specs.declared.faults.Place.{Place}
 use Rattle.graph_tables.specs.declared.faults.TableFault.{TableFault}

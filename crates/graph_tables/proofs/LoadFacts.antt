@@ -1,12 +1,12 @@
 -- The bytes of a file, by what a store gave of it.
-use Rattle.std.proofs.Common.{◌≡◌, ◌∙◌, sym, ℕ, ◌+◌, ◌<◌, ◌≤◌, List, length, take, Option, Some, None, Result, Ok, Err, IfSome, IsSomeAnd, arith, refl, ap, min, nat_lt, Bool, true, false, [], ◌∷◌, drop, slice_get}
+use Rattle.std.proofs.Common.{◌≡◌, ◌∙◌, sym, ℕ, ◌+◌, ◌<◌, ◌≤◌, List, length, take, Option, Some, None, Result, Ok, Err, IfSome, IsSomeAnd, arith, refl, ap, min, nat_lt, true, false, [], ◌∷◌, drop, slice_get}
 use Rattle.std.proofs.lemmas.Bool.Decides.{nat_tests}
 use Rattle.std.proofs.lemmas.List.{drop_all, length-take, take_all}
 use Rattle.csv_records.specs.Table.{records_of}
 use Rattle.value_text.specs.Texts.{number_of}
 use Rattle.element_store.specs.Columns.{Column}
 use Rattle.adfs_base.specs.Files.{Files, Reads, file_of}
-use Rattle.graph_tables.specs.Faults.{◌>>=◌, GivesFault, LoadsFault, fault_at, fault_of}
+use Rattle.graph_tables.specs.Faults.{GivesFault, LoadsFault, fault_at, fault_of}
 use Rattle.graph_tables.specs.Graph.{PropertyGraph}
 use Rattle.graph_tables.specs.Headers.{keys_first}
 use Rattle.graph_tables.specs.Manifest.{manifest_of}

@@ -1,13 +1,13 @@
 -- Names are text, and the tables of lines.
-use Rattle.std.proofs.Common.{◌≡◌, ◌∙◌, sym, ap, ℕ, ◌<◌, ◌≤◌, ◌+◌, Bool, true, false, cond, not, ◌&&◌, ◌||◌, List, [], ◌∷◌, ◌++◌, length, length-append, zero, suc, nat_eq, Option, Some, None, refl, arith, nat_le, Result, Ok, Err, slice_index, slice_index_or, ◌==◌}
+use Rattle.std.proofs.Common.{◌≡◌, ◌∙◌, sym, ℕ, ◌<◌, ◌+◌, Bool, true, false, ◌&&◌, ◌||◌, List, [], ◌∷◌, zero, suc, nat_eq, refl, arith, Result, Ok, slice_index}
 use Rattle.std.proofs.lemmas.Bool.Decides.{nat_tests}
-use Rattle.std.specs.Char.{is_ascii_alphabetic, is_ascii_alphanumeric}
-use Rattle.std.specs.List.{list_all, list_any, onto_first, slice_split}
-use Rattle.std.specs.Str.Lines.{lines, lines_of_parts}
+use Rattle.std.specs.Char.{is_ascii_alphabetic}
+use Rattle.std.specs.List.{list_all}
+use Rattle.std.specs.Str.Lines.{lines}
 use Rattle.std.specs.Str.{IsAscii, is_utf8}
 use Rattle.std.proofs.lemmas.Str.{IsUtf8-from_ascii, is_utf8-from_IsUtf8}
-use Rattle.graph_tables.specs.Faults.{◌>>=◌, Gives, GivesFault}
-use Rattle.graph_tables.specs.Manifest.{is_edge, most_tables, tables_of_lines, with_line}
+use Rattle.graph_tables.specs.Faults.{◌>>=◌, GivesFault}
+use Rattle.graph_tables.specs.Manifest.{tables_of_lines, with_line}
 use Rattle.graph_tables.specs.Names.{is_name, is_name_byte}
 use Rattle.graph_tables.specs.declared.faults.TableFault.{TableFault}
 use Rattle.graph_tables.specs.declared.manifest.TableLine.{TableLine}
@@ -55,25 +55,3 @@ module _ (n : ℕ) (lines rest : List (List ℕ)) (line : List ℕ) (tables : Li
 pub lines_done : (n : ℕ) (lines : List (List ℕ)) (tables : List TableLine) (start : Result (List TableLine) TableFault) → lines ≡ [] → tables_of_lines n lines tables ≡ start → start ≡ Ok tables
 unfolding tables_of_lines
 lines_done n lines tables start none was = sym was ∙ rw none refl
-
--- a text has no more lines than bytes and one
-few_parts : (p : ℕ → Bool) (w : List ℕ) → length (slice_split p w) ≤ length w + 1
-few_parts p [] = omega arith
-few_parts p (x ∷ xs) = by (p x) (slice_split p xs) (few_parts p xs)
-  where
-    by : (b : Bool) (parts : List (List ℕ)) → length parts ≤ length xs + 1 → length (cond b ([] ∷ parts) (onto_first x parts)) ≤ length (x ∷ xs) + 1
-    by true parts h = omega arith
-    by false [] h = omega arith
-    by false (y ∷ ys) h = omega arith
-
-of_parts : (parts : List (List ℕ)) → length (lines_of_parts parts) ≤ length parts
-of_parts [] = omega arith
-of_parts (y ∷ []) = by (length y == 0)
-  where
-    by : (b : Bool) → length (cond b [] (y ∷ [])) ≤ length (y ∷ [])
-    by true = omega arith
-    by false = omega arith
-of_parts (y ∷ z ∷ rest) = omega (arith, of_parts (z ∷ rest))
-
-pub few_lines : (w : List ℕ) → length (lines w) ≤ length w + 1
-few_lines w = omega (arith, of_parts (slice_split (λ b. b == 10) w), few_parts (λ b. b == 10) w)

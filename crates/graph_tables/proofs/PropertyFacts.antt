@@ -1,5 +1,5 @@
 -- Properties by the places of their names.
-use Rattle.std.proofs.Common.{◌≡◌, ◌∙◌, refl, arith, ◌≤◌, ◌+◌, ℕ, zero, suc, Bool, true, false, cond, not, ◌||◌, List, [], ◌∷◌, length, map, slice_get, Option, Some, None}
+use Rattle.std.proofs.Common.{◌≡◌, refl, arith, ◌≤◌, ◌+◌, ℕ, suc, Bool, true, false, cond, not, ◌||◌, List, [], ◌∷◌, length, map, slice_get, Some, None}
 use Rattle.std.specs.List.{list_any, position_or_len}
 use Rattle.std.specs.Map.{keys_of}
 use Rattle.std.specs.Str.{bytes_eq}

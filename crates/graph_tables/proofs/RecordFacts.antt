@@ -1,5 +1,5 @@
 -- The fields of a record, by their places.
-use Rattle.std.proofs.Common.{◌≡◌, refl, ℕ, zero, suc, List, [], ◌∷◌, slice_get, slice_index_or, Option, Some, None}
+use Rattle.std.proofs.Common.{◌≡◌, refl, ℕ, zero, suc, List, [], ◌∷◌, slice_get, slice_index_or, Some, None}
 use Rattle.csv.specs.Records.{field_at}
 
 pub field_is : (fs : List (List ℕ)) (i : ℕ) → field_at fs i ≡ slice_get fs i

@@ -1,5 +1,5 @@
 -- What a record gives, step by step.
-use Rattle.std.proofs.Common.{◌≡◌, ◌∙◌, sym, ap, refl, arith, ◌<◌, ◌≤◌, ◌+◌, ℕ, zero, suc, ℤ, Bool, true, false, cond, List, [], ◌∷◌, ◌++◌, length, drop, take, slice_get, slice_index_or, is_some, Option, Some, None, Result, Ok, Err, add-one}
+use Rattle.std.proofs.Common.{◌≡◌, ◌∙◌, sym, ap, refl, arith, ◌<◌, ◌≤◌, ◌+◌, ℕ, zero, suc, ℤ, Bool, true, false, cond, List, [], ◌∷◌, ◌++◌, length, drop, take, slice_get, is_some, Option, Some, None, Result, Ok, Err, add-one}
 use Rattle.std.proofs.lemmas.List.{drop_all}
 use Rattle.adfs_base.specs.declared.value.Kind.{Kind}
 use Rattle.adfs_base.specs.declared.value.Kind.TheVariants as k

@@ -1,5 +1,5 @@
 -- A graph that is being loaded stays whole and within its limits.
-use Rattle.std.proofs.Common.{◌≡◌, ◌∙◌, sym, ap, refl, subst, arith, ◌<◌, ◌≤◌, ◌+◌, ℕ, zero, suc, ℤ, List, [], ◌∷◌, ◌++◌, length, length-append, take, min}
+use Rattle.std.proofs.Common.{◌≡◌, ◌∙◌, sym, ap, refl, arith, ◌<◌, ◌≤◌, ◌+◌, ℕ, zero, suc, List, [], ◌∷◌, ◌++◌, length, length-append, take, min}
 use Rattle.std.proofs.lemmas.List.{length-take}
 use Rattle.std.specs.List.{AllByRecursion}
 use Rattle.adfs_base.specs.declared.value.Value.{Value}
@@ -7,8 +7,8 @@ use Rattle.adfs_base.specs.declared.value.Value.TheVariants as value
 use Rattle.value_text.specs.Texts.{Kept}
 use Rattle.value_text.specs.Valid.{IsValid}
 use Rattle.element_store.proofs.ElementFacts.{cells_in-push}
-use Rattle.element_store.specs.Columns.{Column, HaveKinds, named}
-use Rattle.element_store.specs.Elements.{Element, Filled, cells_in}
+use Rattle.element_store.specs.Columns.{Column, named}
+use Rattle.element_store.specs.Elements.{Element, Filled}
 use Rattle.graph_tables.specs.Graph.{Edge, EndsIn, IsShown, cells_made, without_ends}
 use Rattle.graph_tables.specs.Loading.{IsReadable, IsSound, KeepsTables, edges_with, filled_of, graph_of}
 use Rattle.graph_tables.specs.declared.manifest.ElementKind.{ElementKind}
@@ -16,7 +16,7 @@ use Rattle.graph_tables.specs.declared.manifest.ElementKind.TheVariants as eleme
 use Rattle.graph_tables.specs.Rows.{most_cells, most_edges, most_vertices}
 use Rattle.graph_tables.specs.declared.loading.Ends.{Ends}
 use Rattle.graph_tables.specs.declared.loading.Loading.{Loading}
-use Rattle.graph_tables.proofs.GraphFacts.{edges_with-push, length-edges_with, without_ends-edges_with}
+use Rattle.graph_tables.proofs.GraphFacts.{edges_with-push, without_ends-edges_with}
 
 take-take-le : {A : Type 0} (m n : ℕ) (xs : List A) → m ≤ n → take m (take n xs) ≡ take m xs
 take-take-le zero n xs h = refl

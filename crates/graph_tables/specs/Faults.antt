@@ -1,7 +1,6 @@
 -- Faults with their places, and steps that may have one.
 use Rattle.std.specs.Prelude.{◌≡◌, ℕ, ◌≤◌, Option, Result, Ok, Err, IfErr, MatchOption}
 use Rattle.adfs_base.specs.Counts.{Rose}
-use Rattle.graph_tables.specs.declared.faults.Quantity.{Quantity}
 use Rattle.graph_tables.specs.declared.faults.TableKind.{TableKind}
 use Rattle.graph_tables.specs.declared.faults.TableKind.TheVariants as kind
 use Rattle.graph_tables.specs.declared.faults.TableFault.{TableFault}

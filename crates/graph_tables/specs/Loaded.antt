@@ -1,5 +1,5 @@
 -- The graph that the files of a store say, or the first fault in order of manifest line, record and column.
-use Rattle.std.specs.Prelude.{◌≡◌, ℕ, ◌+◌, nat_lt, if◌then◌else◌, List, [], ◌∷◌, length, drop, slice_index_or, Option, Some, None, Result, Ok, Err}
+use Rattle.std.specs.Prelude.{ℕ, ◌+◌, nat_lt, if◌then◌else◌, List, [], ◌∷◌, length, drop, slice_index_or, Option, Some, None, Result, Ok, Err}
 use Rattle.adfs_base.specs.Files.{Files, file_of}
 use Rattle.csv_records.specs.Table.{records_of}
 use Rattle.element_store.specs.Columns.{Column}

@@ -1,5 +1,5 @@
 -- Properties by their numbers, and how a table's header adds to them.
-use Rattle.std.specs.Prelude.{◌≡◌, ℕ, ◌+◌, Bool, true, false, if◌then◌else◌, List, [], ◌∷◌, ◌++◌, length, Option, Some, None}
+use Rattle.std.specs.Prelude.{ℕ, ◌+◌, Bool, true, false, if◌then◌else◌, List, [], ◌∷◌, ◌++◌, length, Option, Some, None}
 use Rattle.std.specs.Str.{bytes_eq}
 use Rattle.adfs_base.specs.declared.value.Kind.{Kind}
 use Rattle.adfs_base.specs.declared.value.Kind.TheVariants as kind

@@ -1,5 +1,5 @@
 -- What the records of a table give.
-use Rattle.std.specs.Prelude.{◌≡◌, ℕ, ◌+◌, ◌==◌, Bool, not, nat_le, nat_lt, if◌then◌else◌, ℤ, List, [], ◌∷◌, ◌++◌, length, drop, slice_index_or, is_some, Option, Some, None, Result, Ok, Err}
+use Rattle.std.specs.Prelude.{ℕ, ◌+◌, ◌==◌, not, nat_le, nat_lt, if◌then◌else◌, ℤ, List, [], ◌∷◌, ◌++◌, length, drop, slice_index_or, is_some, Option, Some, None, Result, Ok, Err}
 use Rattle.adfs_base.specs.declared.value.Value.{Value}
 use Rattle.value_text.specs.Cells.{Reading, cell_value}
 use Rattle.value_text.specs.Numbers.{int_cell}

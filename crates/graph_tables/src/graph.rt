@@ -1,14 +1,16 @@
 //! The graph that was loaded, and its readers.
-ghost use Rattle.std.specs.Prelude.{◌≡◌, ◌<◌, ◌^◌, [], length, slice_get, Some};
+ghost use Rattle.std.specs.Prelude.{◌≡◌, ◌<◌, ◌^◌, [], IfOk, length, slice_get, Some};
 ghost use Rattle.std.specs.List.{AllByRecursion};
 ghost use Rattle.std.specs.Option.{option_map};
+ghost use Rattle.element_store.specs.Chosen.{where_true};
 ghost use Rattle.element_store.specs.Columns.{value_of};
-ghost use Rattle.graph_tables.specs.Graph.{EndsIn, vertex_of};
+ghost use Rattle.graph_tables.specs.Graph.{EndsIn, vertex_of, without_ends};
 ghost use Rattle.graph_tables.specs.Loading.{IsSound, graph_of};
 
 use crate::loading::Loading;
 use crate::properties::{Properties, Schema};
-use adfs_base::Value;
+use adfs_base::{NoMemory, Value};
+use element_store::{Bits, Chosen, choose};
 use std::alloc::Global;
 use std::marker::Model;
 use std::mem::replace;
@@ -100,6 +102,25 @@ impl Graph {
         ensures { result ≡ vertex_of self.now.vertices key }
     {
         self.loaded.vertices.number_of(key)
+    }
+
+    /// The vertices whose flags are true, in their order, with the rows of their tables.
+    pub fn choose_vertices(&self, alloc: Global, flags: &Bits) -> Result<Chosen, NoMemory>
+        requires { length flags.now ≡ length self.now.vertices }
+        ensures { IfOk result (λ chosen. chosen.elements ≡ where_true flags.now self.now.vertices) }
+    {
+        let vertices = &self.loaded.vertices;
+        Ok(choose(alloc, vertices, flags)?)
+    }
+
+    /// What the edges whose flags are true have besides their ends, in their order, with the rows of their
+    /// tables.
+    pub fn choose_edges(&self, alloc: Global, flags: &Bits) -> Result<Chosen, NoMemory>
+        requires { length flags.now ≡ length self.now.edges }
+        ensures { IfOk result (λ chosen. chosen.elements ≡ where_true flags.now (without_ends self.now.edges)) }
+    {
+        let edges = &self.loaded.edges;
+        Ok(choose(alloc, edges, flags)?)
     }
 
     /// Gives the schema and the texts away, and leaves empty ones. The vertices and edges stay, and their

@@ -1,8 +1,8 @@
 -- The first line of a text.
 use Rattle.std.proofs.Common.{◌≡◌, refl, arith, ◌<◌, ◌≤◌, ◌+◌, ℕ, suc, Bool, true, false, cond, List, [], ◌∷◌, length, take, drop, position, Some, None, ◌==◌, nat_lt, add-one}
 use Rattle.std.proofs.lemmas.Bool.Decides.{nat_tests}
-use Rattle.std.specs.List.{position_or_len, slice_split}
-use Rattle.std.specs.Str.Lines.{lines, strip_carriage_return}
+use Rattle.std.specs.List.{onto_first, position_or_len, slice_split}
+use Rattle.std.specs.Str.Lines.{lines, lines_of_parts, strip_carriage_return}
 
 abbrev is_feed : ℕ → Bool
 is_feed b = b == 10
@@ -63,3 +63,27 @@ lines_none w e some = by (nat_lt (place w) (length w)) refl e
     by : (b : Bool) → nat_lt (place w) (length w) ≡ b → cond b (Some (place w)) None ≡ None → lines w ≡ w ∷ []
     by true t f = cc f
     by false t f = rw (parts_none w (grind (arith, nat_tests)), some) refl
+
+-- a text has no more parts than bytes and one more
+few_parts : (p : ℕ → Bool) (w : List ℕ) → length (slice_split p w) ≤ length w + 1
+few_parts p [] = omega arith
+few_parts p (x ∷ xs) = by (p x) (slice_split p xs) (few_parts p xs)
+  where
+    by : (b : Bool) (parts : List (List ℕ)) → length parts ≤ length xs + 1 → length (cond b ([] ∷ parts) (onto_first x parts)) ≤ length (x ∷ xs) + 1
+    by true parts h = omega arith
+    by false [] h = omega arith
+    by false (y ∷ ys) h = omega arith
+
+-- the last part is a line where it has bytes
+of_parts : (parts : List (List ℕ)) → length (lines_of_parts parts) ≤ length parts
+of_parts [] = omega arith
+of_parts (y ∷ []) = by (length y == 0)
+  where
+    by : (b : Bool) → length (cond b [] (y ∷ [])) ≤ length (y ∷ [])
+    by true = omega arith
+    by false = omega arith
+of_parts (y ∷ z ∷ rest) = omega (arith, of_parts (z ∷ rest))
+
+-- a text has no more lines than bytes and one more
+pub few_lines : (w : List ℕ) → length (lines w) ≤ length w + 1
+few_lines w = omega (arith, of_parts (slice_split (λ b. b == 10) w), few_parts (λ b. b == 10) w)

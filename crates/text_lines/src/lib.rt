@@ -7,7 +7,7 @@
 //! taking the head of that list. Nothing here takes memory.
 #![tactic(auto)]
 
-ghost use Rattle.std.specs.Prelude.{◌≡◌, ◌∷◌, [], ◌==◌, ◌<◌, ◌+◌, drop, length, MatchOption, position};
+ghost use Rattle.std.specs.Prelude.{◌≡◌, ◌∷◌, [], ◌==◌, ◌<◌, ◌≤◌, ◌+◌, drop, length, MatchOption, position};
 ghost use Rattle.std.specs.Str.Lines.{lines, strip_carriage_return};
 
 use std::marker::Model;
@@ -54,8 +54,10 @@ fn behind(text: &[u8], n: usize) -> &[u8]
 
 impl<'a> Lines<'a> {
     /// At the start of a text.
+    #[tactic(auto, using(crate::proofs::LineFacts::few_lines))]
     pub fn new(text: &'a [u8]) -> Lines<'a>
-        ensures { result ≡ lines text.now }
+        ensures left { result ≡ lines text.now }
+        ensures few { length result ≤ length text.now + 1 }
     {
         Lines { rest: text }
     }

@@ -1,4 +1,3 @@
-use Rattle.std.proofs.Common.{◌≡◌}
 use Rattle.element_store.proofs.BitFacts.{flags_longer}
 use Rattle.element_store.proofs.bits.make_room.Goals as goal
 

@@ -1,4 +1,4 @@
-use Rattle.std.proofs.Common.{◌≡◌, arith, get_or, rules, ◌/◌}
+use Rattle.std.proofs.Common.{arith, ◌/◌}
 use Rattle.std.proofs.lemmas.List.{get_or_read}
 use Rattle.element_store.proofs.BitFacts.{flags_set}
 use Rattle.element_store.proofs.bits.set.Goals as goal

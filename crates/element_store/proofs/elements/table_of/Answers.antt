@@ -1,4 +1,4 @@
-use Rattle.std.proofs.Common.{◌≡◌, ◌∙◌, ◌<◌, ◌≤◌, ◌+◌, ◌-◌, sym, arith, rules, leb, leb-true, length, slice_index_or, refl}
+use Rattle.std.proofs.Common.{◌≤◌, ◌+◌, ◌-◌, arith, rules, leb, leb-true}
 use Rattle.std.proofs.lemmas.Bool.{leb-false}
 use Rattle.std.proofs.lemmas.List.Sorted.{IsPartitionPoint-from_clause, IsPartitionedBy-leb}
 use Rattle.element_store.specs.Tables.{Rows}

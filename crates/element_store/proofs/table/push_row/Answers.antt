@@ -1,4 +1,4 @@
-use Rattle.std.proofs.Common.{◌≡◌, ◌+◌, ◌≤◌, arith, rules, ◌++◌, ◌∷◌, []}
+use Rattle.std.proofs.Common.{◌≡◌, arith, rules, ◌++◌, ◌∷◌, []}
 use Rattle.std.proofs.lemmas.Option.{slice_get-get_or}
 use Rattle.adfs_base.specs.declared.value.Value.TheVariants as value
 use Rattle.element_store.proofs.RowFacts.{kind_there, kinds_length, part_more, part_whole}

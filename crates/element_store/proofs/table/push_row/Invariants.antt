@@ -1,4 +1,4 @@
-use Rattle.std.proofs.Common.{◌≡◌, ◌≤◌, length}
+use Rattle.std.proofs.Common.{◌≤◌, length}
 use Rattle.element_store.proofs.RowFacts.{IsPartOfRow}
 use Rattle.element_store.proofs.table.push_row.Given as goal
 

@@ -1,4 +1,4 @@
-use Rattle.std.proofs.Common.{◌≡◌, ◌∙◌, sym, rules, refl}
+use Rattle.std.proofs.Common.{sym}
 use Rattle.csv.specs.Records.{fields_of}
 use Rattle.graph_tables.proofs.RecordFacts.{absent_cell}
 use Rattle.graph_tables.proofs.header.cell.Goals as goal

@@ -1,4 +1,4 @@
-use Rattle.std.proofs.Common.{◌≡◌, ◌∙◌, sym}
+use Rattle.std.proofs.Common.{◌∙◌}
 use Rattle.csv.specs.Records.{fields_of}
 use Rattle.graph_tables.proofs.RecordFacts.{field_is}
 use Rattle.graph_tables.proofs.header.find_cell.Goals as goal

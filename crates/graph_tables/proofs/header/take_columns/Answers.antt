@@ -1,4 +1,4 @@
-use Rattle.std.proofs.Common.{◌≡◌, ◌∙◌, ◌+◌, ◌<◌, ◌≤◌, sym, ap, arith, rules, length, drop, min, true, false, Err}
+use Rattle.std.proofs.Common.{◌≡◌, ◌∙◌, ◌+◌, ◌<◌, ◌≤◌, sym, ap, arith, rules, length, true, false, Err}
 use Rattle.csv.specs.Records.{fields_of}
 use Rattle.graph_tables.proofs.HeaderFacts.{columns_done, columns_failed, columns_kept}
 use Rattle.graph_tables.proofs.header.take_columns.Goals as goal

@@ -1,4 +1,4 @@
-use Rattle.std.proofs.Common.{◌≡◌, ◌∙◌, ◌≤◌, ◌+◌, sym, arith, refl, length}
+use Rattle.std.proofs.Common.{refl}
 use Rattle.graph_tables.proofs.SoundFacts.{kept_length, sound_edge_table}
 use Rattle.graph_tables.proofs.load.begin_edges.Goals as goal
 

@@ -1,4 +1,4 @@
-use Rattle.std.proofs.Common.{◌≡◌, ◌∙◌, ◌≤◌, sym, rules, arith, length}
+use Rattle.std.proofs.Common.{arith}
 use Rattle.std.proofs.lemmas.Result.{err_from_is_err_and}
 use Rattle.graph_tables.proofs.FaultFacts.{cause_since, place_among}
 use Rattle.graph_tables.proofs.load.load_graph.Goals as goal

@@ -1,4 +1,3 @@
-use Rattle.std.proofs.Common.{◌≡◌, ◌∙◌, ◌≤◌, sym, rules, IfSome}
 use Rattle.std.proofs.lemmas.Result.{err_from_is_err_and}
 use Rattle.graph_tables.proofs.FaultFacts.{own_cause, own_place}
 use Rattle.graph_tables.proofs.LoadFacts.{manifest_failed}

@@ -1,4 +1,3 @@
-use Rattle.std.proofs.Common.{◌≡◌, ◌∙◌, sym, arith, rules, length}
 use Rattle.std.proofs.lemmas.Result.{err_from_is_err_and}
 use Rattle.csv_records.specs.Table.{records_of}
 use Rattle.graph_tables.specs.Loaded.{added_up, table_records}

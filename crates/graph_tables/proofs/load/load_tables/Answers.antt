@@ -1,9 +1,9 @@
-use Rattle.std.proofs.Common.{◌≡◌, ◌∙◌, ◌≤◌, ◌+◌, sym, ap, arith, rules, length, drop, slice_get, Some}
+use Rattle.std.proofs.Common.{◌≡◌, ◌∙◌, ◌+◌, sym, ap, arith, length, slice_get, Some}
 use Rattle.std.proofs.lemmas.Option.{slice_get-get_or}
 use Rattle.std.proofs.lemmas.Result.{err_from_is_err_and}
 use Rattle.graph_tables.specs.Loaded.{tables_from}
 use Rattle.graph_tables.specs.Loading.{graph_of}
-use Rattle.graph_tables.proofs.FaultFacts.{cause_since, place_among}
+use Rattle.graph_tables.proofs.FaultFacts.{place_among}
 use Rattle.graph_tables.proofs.LoadFacts.{tables_done, tables_failed, tables_kept}
 use Rattle.graph_tables.proofs.load.load_tables.Goals as goal
 

@@ -1,4 +1,4 @@
-use Rattle.std.proofs.Common.{◌≡◌, ◌∙◌, sym, rules, refl, true}
+use Rattle.std.proofs.Common.{◌≡◌, ◌∙◌, rules, refl, true}
 use Rattle.graph_tables.specs.Names.{is_name}
 use Rattle.graph_tables.proofs.ManifestFacts.{name_is_text}
 use Rattle.graph_tables.proofs.manifest.label_name.Goals as goal

@@ -1,4 +1,4 @@
-use Rattle.std.proofs.Common.{◌≡◌, ◌∙◌, ◌+◌, ◌<◌, ap, arith, length, []}
+use Rattle.std.proofs.Common.{ap, arith, length, []}
 use Rattle.std.proofs.lemmas.Result.{err_from_is_err_and}
 use Rattle.graph_tables.specs.Manifest.{tables_of_lines}
 use Rattle.graph_tables.proofs.ManifestFacts.{lines_done, lines_failed, lines_kept}

@@ -1,6 +1,4 @@
-use Rattle.std.proofs.Common.{◌≡◌, ◌∙◌, ◌+◌, ◌≤◌, sym, ap, arith, rules, refl}
-use Rattle.element_store.specs.Elements.{Element, cells_in}
-use Rattle.std.proofs.Common.{List}
+use Rattle.std.proofs.Common.{arith, refl}
 use Rattle.graph_tables.proofs.GraphFacts.{without_ends-edges_with}
 use Rattle.graph_tables.proofs.rows.cells_of.Goals as goal
 

@@ -1,4 +1,4 @@
-use Rattle.std.proofs.Common.{◌≡◌, ◌∙◌, sym, ap, rules, w64, Err}
+use Rattle.std.proofs.Common.{◌∙◌, sym, ap, rules, w64, Err}
 use Rattle.std.specs.Int.RustNames.{FitsSigned}
 use Rattle.std.proofs.lemmas.Int.{to_z-of_z}
 use Rattle.graph_tables.proofs.RowLaws.{end_known}

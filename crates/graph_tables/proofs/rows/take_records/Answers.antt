@@ -1,10 +1,8 @@
-use Rattle.std.proofs.Common.{◌≡◌, ◌∙◌, ◌+◌, ◌<◌, sym, ap, arith, rules, length}
+use Rattle.std.proofs.Common.{ap, arith, length}
 use Rattle.std.proofs.lemmas.Result.{err_from_is_err_and}
-use Rattle.csv.specs.Records.{fields_of}
-use Rattle.graph_tables.specs.Loading.{filled_of, graph_of}
-use Rattle.graph_tables.specs.Rows.{rows_from}
+use Rattle.graph_tables.specs.Loading.{graph_of}
 use Rattle.graph_tables.proofs.RowLaws.{rows_done, rows_failed, rows_kept}
-use Rattle.graph_tables.proofs.SoundFacts.{begun_still, columns_kept, keeps_both, label_kept}
+use Rattle.graph_tables.proofs.SoundFacts.{columns_kept, keeps_both, label_kept}
 use Rattle.graph_tables.proofs.rows.take_records.Goals as goal
 
 pub returns-in_err-take_record-clause-gives : goal.returns-in_err-take_record-clause-gives

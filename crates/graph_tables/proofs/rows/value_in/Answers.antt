@@ -1,4 +1,3 @@
-use Rattle.std.proofs.Common.{◌≡◌}
 use Rattle.graph_tables.proofs.RowLaws.{cell_kind}
 use Rattle.graph_tables.proofs.rows.value_in.Goals as goal
 

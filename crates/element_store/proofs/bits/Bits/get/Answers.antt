@@ -1,4 +1,4 @@
-use Rattle.std.proofs.Common.{◌≡◌, ◌<◌, ◌/◌, ◌%◌, ◌∙◌, sym, arith, rules, length, refl}
+use Rattle.std.proofs.Common.{◌/◌, ◌%◌, ◌∙◌, arith, refl}
 use Rattle.std.proofs.lemmas.List.{get_or_read}
 use Rattle.std.proofs.lemmas.Nat.Bits.{shr_and_one}
 use Rattle.element_store.proofs.BitFacts.{flags_get, length-flags}

@@ -1,4 +1,4 @@
-use Rattle.std.proofs.Common.{◌≡◌, sym}
+use Rattle.std.proofs.Common.{sym}
 use Rattle.element_store.proofs.BitFacts.{length-flags}
 use Rattle.element_store.proofs.bits.Bits.len.Goals as goal
 

@@ -1,4 +1,4 @@
-use Rattle.std.proofs.Common.{◌≡◌, ◌∙◌, sym, arith, rules, refl}
+use Rattle.std.proofs.Common.{◌∙◌, arith, refl}
 use Rattle.element_store.proofs.BitFacts.{flags_push, length-flags}
 use Rattle.element_store.proofs.bits.Bits.push.Goals as goal
 

@@ -1,4 +1,4 @@
-use Rattle.std.proofs.Common.{◌≡◌, ◌∙◌, sym, arith, rules, refl}
+use Rattle.std.proofs.Common.{◌∙◌, sym, arith}
 use Rattle.element_store.proofs.BitFacts.{flags_front, holds_front, length-flags, take-flags}
 use Rattle.element_store.proofs.bits.Bits.truncate.Goals as goal
 

@@ -1,4 +1,4 @@
-use Rattle.std.proofs.Common.{◌≡◌, ◌∙◌, ◌<◌, sym, ap, arith, rules, refl, length, true, false, cond, Some, None, Option, ℕ, Bool, slice_index_or}
+use Rattle.std.proofs.Common.{◌∙◌, sym, ap, arith, rules, true, false, Some, ℕ}
 use Rattle.std.proofs.lemmas.List.{get_or_read}
 use Rattle.element_store.proofs.CellFacts.{length-words_where, words_where-get}
 use Rattle.element_store.proofs.cells.Cells.get.Goals as goal

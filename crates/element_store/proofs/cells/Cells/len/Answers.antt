@@ -1,4 +1,4 @@
-use Rattle.std.proofs.Common.{◌≡◌, ◌∙◌, sym, arith, rules}
+use Rattle.std.proofs.Common.{rules}
 use Rattle.element_store.proofs.CellFacts.{length-words_where}
 use Rattle.element_store.proofs.cells.Cells.len.Goals as goal
 

@@ -1,4 +1,4 @@
-use Rattle.std.proofs.Common.{◌≡◌, ◌∙◌, sym, rules, true, arith, refl, ap, ◌++◌, ◌∷◌, []}
+use Rattle.std.proofs.Common.{◌≡◌, ◌∙◌, rules, true, refl}
 use Rattle.std.specs.Result.{is_ok}
 use Rattle.element_store.proofs.CellFacts.{there_or_not, words_where-push}
 use Rattle.element_store.proofs.cells.Cells.push.Goals as goal

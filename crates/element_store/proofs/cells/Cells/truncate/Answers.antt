@@ -1,4 +1,4 @@
-use Rattle.std.proofs.Common.{◌≡◌, ◌∙◌, sym, arith, rules, refl}
+use Rattle.std.proofs.Common.{arith}
 use Rattle.element_store.proofs.CellFacts.{length-words_where, words_where-take}
 use Rattle.element_store.proofs.cells.Cells.truncate.Goals as goal
 

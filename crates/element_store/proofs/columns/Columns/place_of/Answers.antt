@@ -1,4 +1,3 @@
-use Rattle.std.proofs.Common.{◌≡◌, ◌∙◌, sym, rules, refl}
 use Rattle.element_store.proofs.columns.Columns.place_of.Goals as goal
 
 pub returns : goal.returns

@@ -1,4 +1,4 @@
-use Rattle.std.proofs.Common.{◌≡◌, ◌∙◌, sym, rules, refl, nat_eq}
+use Rattle.std.proofs.Common.{◌∙◌, nat_eq}
 use Rattle.element_store.proofs.PositionFacts.{entries_after}
 use Rattle.element_store.proofs.columns.Columns.push.Goals as goal
 

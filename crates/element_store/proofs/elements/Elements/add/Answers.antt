@@ -1,6 +1,6 @@
-use Rattle.std.proofs.Common.{◌≡◌, ◌∙◌, ◌<◌, ◌≤◌, ◌-◌, suc, sym, ap, arith, rules, length, refl, int_eq, w64}
+use Rattle.std.proofs.Common.{◌≡◌, ◌∙◌, ◌<◌, ◌-◌, suc, sym, ap, arith, length, int_eq, w64}
 use Rattle.std.proofs.lemmas.Int.{to_z-of_z}
-use Rattle.element_store.specs.Tables.{Rows, labelled}
+use Rattle.element_store.specs.Tables.{Rows}
 use Rattle.element_store.proofs.ElementFacts.{filled_after, keys_in-joined, length-joined, length-named, view_after}
 use Rattle.element_store.proofs.PositionFacts.{keys_after}
 use Rattle.element_store.proofs.TableFacts.{last_columns-is, rows_among}

@@ -1,5 +1,4 @@
-use Rattle.std.proofs.Common.{◌≡◌, ◌∙◌, ◌<◌, ◌+◌, sym, ap, arith, rules, length, refl, length-append, ◌∷◌, []}
-use Rattle.element_store.specs.Tables.{labelled}
+use Rattle.std.proofs.Common.{◌≡◌, ◌∙◌, arith, refl, length-append, ◌∷◌, []}
 use Rattle.element_store.proofs.ElementFacts.{length-joined}
 use Rattle.element_store.proofs.TableFacts.{columns_begun, label_begun, rows_begun, stacked_begun}
 use Rattle.element_store.proofs.elements.Elements.begin_table.Goals as goal

@@ -1,4 +1,4 @@
-use Rattle.std.proofs.Common.{◌≡◌, ◌∙◌, ◌<◌, sym, ap, arith, rules, length, refl, w64, pos, slice_index_or}
+use Rattle.std.proofs.Common.{rules, refl, w64, pos, slice_index_or}
 use Rattle.std.specs.Int.RustNames.{FitsSigned}
 use Rattle.std.proofs.lemmas.Int.{to_z-of_z}
 use Rattle.element_store.proofs.ElementFacts.{element_read, length-joined}

@@ -1,4 +1,4 @@
-use Rattle.std.proofs.Common.{◌≡◌, ◌∙◌, ◌<◌, sym, arith, length}
+use Rattle.std.proofs.Common.{◌∙◌, sym, arith}
 use Rattle.element_store.proofs.ElementFacts.{length-joined}
 use Rattle.element_store.proofs.elements.Elements.len.Goals as goal
 

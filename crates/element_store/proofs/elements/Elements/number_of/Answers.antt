@@ -1,4 +1,4 @@
-use Rattle.std.proofs.Common.{◌≡◌, ◌∙◌, sym, arith, rules, w64}
+use Rattle.std.proofs.Common.{arith, w64}
 use Rattle.std.proofs.lemmas.Int.{to_z-of_z}
 use Rattle.element_store.proofs.ElementFacts.{keys_in-joined, length-joined}
 use Rattle.element_store.proofs.elements.Elements.number_of.Goals as goal

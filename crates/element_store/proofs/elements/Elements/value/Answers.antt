@@ -1,4 +1,4 @@
-use Rattle.std.proofs.Common.{◌≡◌, ◌∙◌, ◌<◌, sym, ap, arith, rules, length, refl, [], ◌-◌}
+use Rattle.std.proofs.Common.{[], ◌-◌}
 use Rattle.std.proofs.lemmas.Option.{slice_get-get_or}
 use Rattle.element_store.proofs.ElementFacts.{element_read, length-joined}
 use Rattle.element_store.proofs.elements.Elements.value.Goals as goal

@@ -1,5 +1,5 @@
-use Rattle.std.proofs.Common.{◌≡◌, ◌∙◌, ◌<◌, sym, arith, refl, length}
-use Rattle.element_store.proofs.RowFacts.{length-rows_of, rows_after, total_after}
+use Rattle.std.proofs.Common.{arith, refl}
+use Rattle.element_store.proofs.RowFacts.{length-rows_of, rows_after}
 use Rattle.element_store.proofs.table.Table.push.Goals as goal
 
 pub overflow_add-self : goal.overflow_add-self

@@ -1,13 +1,9 @@
-use Rattle.std.proofs.Common.{◌≡◌, ◌∙◌, ◌<◌, ◌≤◌, ◌+◌, ◌*◌, sym, ap, arith, rules, refl, length, nat_eq, take, drop, Some, Option, List}
+use Rattle.std.proofs.Common.{◌∙◌, ◌*◌, sym, ap, arith, length, nat_eq, take, drop, Some}
 use Rattle.std.proofs.lemmas.Option.{slice_get_within}
 use Rattle.element_store.proofs.PositionFacts.{no_place, place_is}
 use Rattle.element_store.proofs.RowFacts.{cell_there, cell_within, length-rows_of, rows_get, value_absent, value_found}
-use Rattle.element_store.specs.Columns.{named, value_of}
-use Rattle.element_store.specs.Tables.{values_of}
 use Rattle.std.specs.Map.{keys_of}
 use Rattle.std.proofs.lemmas.Map.Entries.{length-keys_of}
-use Rattle.std.specs.Option.{option_map}
-use Rattle.adfs_base.specs.declared.value.Value.{Value}
 use Rattle.element_store.proofs.table.Table.value.Goals as goal
 
 pub overflow_mul-row : goal.overflow_mul-row

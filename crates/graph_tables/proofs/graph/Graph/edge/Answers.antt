@@ -1,8 +1,8 @@
-use Rattle.std.proofs.Common.{◌≡◌, ◌∙◌, ◌<◌, sym, arith, rules, length, refl, pos, [], slice_index_or, w64}
+use Rattle.std.proofs.Common.{arith, rules, slice_index_or, w64}
 use Rattle.std.proofs.lemmas.Option.{slice_get-get_or}
 use Rattle.std.specs.Int.RustNames.{FitsSigned}
 use Rattle.std.proofs.lemmas.Int.{to_z-of_z}
-use Rattle.graph_tables.proofs.GraphFacts.{edges_with-get, ends_at, fields_are, length-edges_with, no_element, no_ends}
+use Rattle.graph_tables.proofs.GraphFacts.{edges_with-get, ends_at, fields_are, length-edges_with, no_element}
 use Rattle.graph_tables.proofs.graph.Graph.edge.Goals as goal
 
 pub get-key-requires : goal.get-key-requires

@@ -1,4 +1,4 @@
-use Rattle.std.proofs.Common.{◌≡◌, ◌∙◌, ◌<◌, sym, arith, rules, length, refl, pos, [], slice_index_or}
+use Rattle.std.proofs.Common.{arith}
 use Rattle.std.proofs.lemmas.Option.{slice_get-get_or}
 use Rattle.graph_tables.proofs.GraphFacts.{edges_with-get, length-edges_with, no_element, no_ends}
 use Rattle.graph_tables.proofs.graph.Graph.edge_value.Goals as goal

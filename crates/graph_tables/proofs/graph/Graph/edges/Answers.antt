@@ -1,4 +1,4 @@
-use Rattle.std.proofs.Common.{◌≡◌, ◌∙◌, sym}
+use Rattle.std.proofs.Common.{◌∙◌, sym}
 use Rattle.graph_tables.proofs.GraphFacts.{length-edges_with}
 use Rattle.graph_tables.proofs.graph.Graph.edges.Goals as goal
 

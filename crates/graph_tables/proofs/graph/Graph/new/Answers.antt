@@ -1,4 +1,3 @@
-use Rattle.std.proofs.Common.{◌≡◌, refl}
 use Rattle.graph_tables.proofs.SoundFacts.{readable}
 use Rattle.graph_tables.proofs.graph.Graph.new.Goals as goal
 

@@ -1,4 +1,4 @@
-use Rattle.std.proofs.Common.{◌≡◌, ◌∙◌, ◌+◌, sym, ap, arith, rules, refl, length, Some}
+use Rattle.std.proofs.Common.{◌≡◌, ◌+◌, sym, arith}
 use Rattle.std.proofs.lemmas.Map.Entries.{length-keys_of}
 use Rattle.std.specs.Map.{keys_of}
 use Rattle.element_store.proofs.PositionFacts.{no_place, place_is}

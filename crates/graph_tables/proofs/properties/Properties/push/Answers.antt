@@ -1,4 +1,4 @@
-use Rattle.std.proofs.Common.{◌≡◌, ◌∙◌, ◌<◌, sym, ap, arith, rules, refl, length, length-append, ◌∷◌, [], ◌++◌}
+use Rattle.std.proofs.Common.{◌∙◌, arith, refl, length-append, ◌∷◌, []}
 use Rattle.std.proofs.lemmas.List.{length-map, map-append}
 use Rattle.std.specs.Str.{bytes_eq}
 use Rattle.element_store.proofs.PositionFacts.{entries_without}

@@ -1,0 +1,5 @@
+pub mod Faults
+pub mod Kept
+pub mod OwnerFile
+pub mod Owners
+pub mod Parts
