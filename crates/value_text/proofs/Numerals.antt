@@ -1,19 +1,20 @@
 -- What an int cell says, against what `parse` says.
-use Rattle.std.proofs.Common.{◌≡◌, refl, arith, ◌<◌, ℕ, zero, suc, Bool, true, false, cond, ◌&&◌, ◌==◌, drop, List, [], ◌∷◌, length, ℤ, pos, negsuc, MatchResult, Ok, Err, Result, nat_lt, w64, IsUtf8}
+use Rattle.std.proofs.Common.{◌≡◌, refl, arith, ◌<◌, ℕ, zero, suc, Bool, true, false, cond, ◌&&◌, ◌==◌, drop, ap, List, [], ◌∷◌, length, ℤ, pos, negsuc, Some, None, Ok, Err, Result, nat_lt, w64, IsUtf8}
 use Rattle.std.proofs.lemmas.Bool.{false≢true}
 use Rattle.std.proofs.lemmas.Bool.Decides.{nat_tests}
 use Rattle.std.proofs.lemmas.Fmt.{IsAscii-from_digits, decimal_is_IsNumeral}
-use Rattle.std.proofs.lemmas.Int.Digits.{}
 use Rattle.std.proofs.lemmas.Str.{IsUtf8-from_ascii}
 use Rattle.std.proofs.lemmas.Str.Parse.{digit_from_value}
 use Rattle.std.specs.Char.{digit_value, is_ascii_digit}
 use Rattle.std.specs.Fmt.{decimal}
 use Rattle.std.specs.Int.RustNames.{FitsSigned}
 use Rattle.std.specs.List.{list_all}
+use Rattle.std.specs.Result.{result_ok}
 use Rattle.std.specs.Str.{IsAscii}
 use Rattle.std.specs.Str.Parse.{AllDigits, IsNumeral, ParsesSigned, signed_digits_value, starts_with_minus, without_leading_sign}
 use Rattle.value_text.specs.Numbers.{int_cell, is_i64, is_numeral}
 use Rattle.value_text.specs.Shown.{shown_int}
+use Rattle.value_text.specs.declared.cells.CellFault.{CellFault}
 use Rattle.value_text.specs.declared.cells.CellFault.TheVariants as fault
 
 both : (a b : Bool) → (a && b) ≡ true → (a ≡ true) × (b ≡ true)
@@ -46,20 +47,6 @@ fits_back : (z : ℤ) → FitsSigned w64 z → is_i64 z ≡ true
 fits_back (pos n) h = let s = h.sfits in grind (arith, nat_tests)
 fits_back (negsuc n) h = let s = h.sfits in grind (arith, nat_tests)
 
--- what `parse` gives of a text of the right form
-pub int_is : {E : Type 0} (bytes : List ℕ) (r : Result ℤ E) → is_numeral (without_leading_sign bytes) ≡ true → ParsesSigned w64 10 bytes r
-    → MatchResult r (λ z. Ok z ≡ int_cell bytes) (λ _. Err fault.WideInt ≡ int_cell bytes)
-int_is bytes (Ok z) n h = rw (n, fits_back (signed_digits_value 10 bytes) h.0.1, h.1) refl
-int_is bytes (Err e) n h = by (is_i64 (signed_digits_value 10 bytes)) refl
-  where
-    by : (b : Bool) → is_i64 (signed_digits_value 10 bytes) ≡ b → Err fault.WideInt ≡ int_cell bytes
-    by true is = absurd (h (numeral (without_leading_sign bytes) n, fits (signed_digits_value 10 bytes) is))
-    by false is = rw (n, is) refl
-
--- and of another text
-pub int_none : (bytes : List ℕ) → is_numeral (without_leading_sign bytes) ≡ false → Err fault.BadInt ≡ int_cell bytes
-int_none bytes n = rw n refl
-
 -- a text of the right form is ASCII
 signed_ascii : (b : ℕ) (rest : List ℕ) → b < 128 → IsAscii rest → IsAscii (b ∷ rest)
 signed_ascii b rest h k zero = h
@@ -79,6 +66,43 @@ numeral_text (b ∷ rest) n = IsUtf8-from_ascii (b ∷ rest) (front_ascii b rest
 
 is_numeral-back : (ds : List ℕ) → IsNumeral 10 ds → is_numeral ds ≡ true
 is_numeral-back ds own = let some : nat_lt 0 (length ds) ≡ true = grind (arith, nat_tests, own.0) in rw (some, digits_back ds own.1) refl
+
+-- what `parse` gives of a text
+pub number_is : {E : Type 0} (bytes : List ℕ) (r : Result ℤ E) → ParsesSigned w64 10 bytes r → result_ok r ≡ result_ok (int_cell bytes)
+number_is bytes (Ok z) h = rw (is_numeral-back (without_leading_sign bytes) h.0.0, fits_back (signed_digits_value 10 bytes) h.0.1, h.1) refl
+number_is bytes (Err e) h = by (is_numeral (without_leading_sign bytes)) (is_i64 (signed_digits_value 10 bytes)) refl refl
+  where
+    by : (b c : Bool) → is_numeral (without_leading_sign bytes) ≡ b → is_i64 (signed_digits_value 10 bytes) ≡ c → None ≡ result_ok (int_cell bytes)
+    by true true n is = absurd (h (numeral (without_leading_sign bytes) n, fits (signed_digits_value 10 bytes) is))
+    by true false n is = rw (n, is) refl
+    by false c n is = rw n refl
+
+-- bytes that are no text hold no number
+pub number_none : (bytes : List ℕ) → (IsUtf8 bytes → ⊥) → None ≡ result_ok (int_cell bytes)
+number_none bytes other = by (is_numeral (without_leading_sign bytes)) refl
+  where
+    by : (b : Bool) → is_numeral (without_leading_sign bytes) ≡ b → None ≡ result_ok (int_cell bytes)
+    by true n = absurd (other (numeral_text bytes n))
+    by false n = rw n refl
+
+-- a cell with a number says that
+pub int_of : (bytes : List ℕ) (z : ℤ) → Some z ≡ result_ok (int_cell bytes) → Ok z ≡ int_cell bytes
+int_of bytes z is = by (int_cell bytes) is
+  where
+    by : (r : Result ℤ CellFault) → Some z ≡ result_ok r → Ok z ≡ r
+    by (Ok y) e = ap Ok (cc e)
+    by (Err e) f = cc f
+
+-- and one without has the wrong form, or a number that is too wide
+pub int_none : (bytes : List ℕ) → None ≡ result_ok (int_cell bytes) → is_numeral (without_leading_sign bytes) ≡ false → Err fault.BadInt ≡ int_cell bytes
+int_none bytes is n = rw n refl
+
+pub int_wide : (bytes : List ℕ) → None ≡ result_ok (int_cell bytes) → is_numeral (without_leading_sign bytes) ≡ true → Err fault.WideInt ≡ int_cell bytes
+int_wide bytes is n = by (is_i64 (signed_digits_value 10 bytes)) refl
+  where
+    by : (b : Bool) → is_i64 (signed_digits_value 10 bytes) ≡ b → Err fault.WideInt ≡ int_cell bytes
+    by true e = cc (rw (n, e) at is)
+    by false e = rw (n, e) refl
 
 -- digits have no sign before them
 no_sign : (ds : List ℕ) → IsNumeral 10 ds → (without_leading_sign ds ≡ ds) × (starts_with_minus ds ≡ false)

@@ -2,6 +2,7 @@
 ghost use Rattle.std.specs.Prelude.{◌≡◌, ◌≤◌, ◌+◌, ◌<◌, ◌-◌, ◌^◌, IfOk, OnErr, length};
 ghost use Rattle.std.specs.Char.{is_ascii_digit};
 ghost use Rattle.std.specs.List.{list_all};
+ghost use Rattle.std.specs.Result.{result_ok};
 ghost use Rattle.std.specs.Str.{is_utf8};
 ghost use Rattle.std.specs.Str.Parse.{without_leading_sign};
 ghost use Rattle.value_text.specs.Cells.{Gives, bool_cell, cell_value};
@@ -56,24 +57,32 @@ fn has_digits(digits: &[u8]) -> bool
     !digits.is_empty() && all_digits(digits)
 }
 
+// The number of a cell, where it holds one that i64 has.
+fn number(cell: &[u8]) -> Option<i64>
+    ensures { result ≡ result_ok (int_cell cell.now) }
+{
+    match str::from_utf8(cell) {
+        Ok(text) => text.parse::<i64>().ok(),
+        Err(_) => None,
+    }
+}
+
 /// The number of a cell that has to hold one, as those of `id`, `source` and `target` do: the empty cell
 /// is `BadInt`.
 ///
-/// The form is an optional `+` or `-`, then one decimal digit or more. It is tested before the range, so
-/// `BadInt` comes exactly where the form is wrong, and `WideInt` exactly where it is right and the number
-/// is outside i64. It takes no memory.
+/// The form is an optional `+` or `-`, then one decimal digit or more. `BadInt` comes exactly where the form is
+/// wrong, and `WideInt` exactly where it is right and the number is outside i64. It takes no memory.
 pub fn read_key(cell: &[u8]) -> Result<i64, CellFault>
     ensures { result ≡ int_cell cell.now }
 {
-    if !has_digits(unsigned_part(cell)) {
-        return Err(CellFault::BadInt);
+    if let Some(number) = number(cell) {
+        return Ok(number);
     }
-    match str::from_utf8(cell) {
-        Ok(text) => match text.parse::<i64>() {
-            Ok(number) => Ok(number),
-            Err(_) => Err(CellFault::WideInt),
-        },
-        Err(_) => Err(CellFault::BadInt),
+    // Why it holds none is looked for only now: nearly every cell holds one.
+    if has_digits(unsigned_part(cell)) {
+        Err(CellFault::WideInt)
+    } else {
+        Err(CellFault::BadInt)
     }
 }
 
