@@ -1,5 +1,5 @@
 -- What each match's row is, each row of the answer is.
-use Rattle.std.proofs.Common.{◌≡◌, ℕ, zero, suc, not, Bool, true, false, cond, List, [], ◌∷◌, map, take, Option, Some, None, filter}
+use Rattle.std.proofs.Common.{ℕ, zero, suc, not, Bool, true, false, cond, List, [], ◌∷◌, map, take, Option, Some, None, filter}
 use Rattle.std.specs.List.{AllByRecursion}
 use Rattle.adfs_base.specs.declared.value.Value.{Value}
 use Rattle.sorted_lists.specs.Sorted.{before_by, in_order}

@@ -1,12 +1,11 @@
 -- With DISTINCT no row stands twice, and the row of each match stands there.
-use Rattle.std.proofs.Common.{◌≡◌, ◌≢◌, ◌⊎◌, inl, inr, ℕ, zero, suc, ◌<◌, not, Bool, true, false, cond, List, [], ◌∷◌, All, length, map, take, Option, Some, None, refl, sym, ap, arith, subst, ◌∙◌}
+use Rattle.std.proofs.Common.{◌≡◌, ◌≢◌, inl, inr, ℕ, zero, suc, not, Bool, true, false, cond, List, [], ◌∷◌, All, map, take, Option, Some, None, refl, sym, ap, arith, subst, ◌∙◌}
 use Rattle.std.specs.Cmp.{IsTotalOrder}
 use Rattle.std.specs.List.{AllByRecursion, AllPairs, filter}
 use Rattle.std.specs.Ordering.{is_eq}
 use Rattle.std.specs.declared.cmp.Ordering.{Ordering}
 use Rattle.std.proofs.lemmas.List.Elements.{All-cons, All-nil}
 use Rattle.std.proofs.lemmas.List.Kept.{AllPairs-cons}
-use Rattle.adfs_base.specs.declared.value.Value.{Value}
 use Rattle.sorted_lists.specs.Sorted.{before_by, in_order, placed}
 use Rattle.sorted_lists.proofs.Alike as alike
 use Rattle.sorted_lists.proofs.Among.{Among, Among-filter, Among-in_order, Among-map}

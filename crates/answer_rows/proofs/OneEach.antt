@@ -1,5 +1,5 @@
 -- One of each of those that are the same: the first in a list, or the first of each run once the list is in order.
-use Rattle.std.proofs.Common.{◌≡◌, ℕ, not, Bool, true, false, cond, List, [], ◌∷◌, take, refl, sym, ap, ◌∙◌}
+use Rattle.std.proofs.Common.{◌≡◌, not, Bool, true, false, cond, List, [], ◌∷◌, take, refl, sym, ap, ◌∙◌}
 use Rattle.std.specs.Cmp.{IsTotalOrder}
 use Rattle.std.specs.List.{AllByRecursion, dedup, dedup_from, filter}
 use Rattle.std.specs.Ordering.{is_eq, ordering_reverse}

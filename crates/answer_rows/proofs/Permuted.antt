@@ -1,11 +1,10 @@
 -- The rows of matches are the same in whatever order these come.
-use Rattle.std.proofs.Common.{◌≡◌, ℕ, not, Bool, true, false, cond, List, [], ◌∷◌, map, take, All, refl, sym, ap, subst, ◌∙◌}
+use Rattle.std.proofs.Common.{◌≡◌, ℕ, not, Bool, true, false, List, [], ◌∷◌, map, take, All, refl, sym, ap, subst, ◌∙◌}
 use Rattle.std.specs.List.{filter}
 use Rattle.std.specs.List.Sorted.{IsPermutation}
 use Rattle.std.specs.Ordering.{is_eq}
 use Rattle.std.proofs.lemmas.List.Elements.{All-cons, All-head, All-nil, All-tail}
 use Rattle.std.proofs.lemmas.List.Sorted.{IsPermutation-map}
-use Rattle.adfs_base.specs.declared.value.Value.{Value}
 use Rattle.sorted_lists.specs.Sorted.{before_by, in_order}
 use Rattle.sorted_lists.proofs.Alike.{alike-permuted, in_order-alike, in_order-permuted}
 use Rattle.sorted_lists.proofs.Mapped.{map-in_order}

@@ -1,5 +1,5 @@
 -- The matches of a query give its answer in whatever order they come.
-use Rattle.std.proofs.Common.{◌≡◌, ◌<◌, ◌∷◌, ℕ, Bool, true, false, List, [], All, length, map, zero, suc, refl, sym, ap, arith, subst, ◌∙◌}
+use Rattle.std.proofs.Common.{◌≡◌, ◌<◌, ◌∷◌, ℕ, true, false, List, [], All, length, map, zero, suc, refl, sym, ap, arith, subst, ◌∙◌}
 use Rattle.std.specs.List.{Contains, IsDistinct, slice_index_or}
 use Rattle.std.specs.List.Sorted.{IsPermutation}
 use Rattle.std.specs.Ordering.{is_eq}

@@ -1,14 +1,13 @@
 -- Without order keys and DISTINCT the order of assignments is kept.
-use Rattle.std.proofs.Common.{◌≡◌, ℕ, Bool, true, false, List, [], ◌∷◌, map, refl, ap, rules, ◌∙◌}
+use Rattle.std.proofs.Common.{◌≡◌, ℕ, Bool, false, List, [], ◌∷◌, map, refl, ap, ◌∙◌}
 use Rattle.std.specs.List.{AllByRecursion}
 use Rattle.std.specs.List.Sorted.{IsStrictlySortedBy}
 use Rattle.std.specs.Ordering.{is_lt, ordering_reverse}
 use Rattle.std.specs.declared.cmp.Ordering.TheVariants.{Less}
 use Rattle.std.proofs.lemmas.Cmp.{nat_list_cmp_total}
-use Rattle.adfs_base.specs.declared.value.Value.{Value}
 use Rattle.sorted_lists.specs.Sorted.{before_by, in_order}
 use Rattle.sorted_lists.proofs.Ascending.{Ascends, in_order-ascending}
-use Rattle.answer_rows.specs.Arranged.{Arrangement, Shown, kept, limited, match_order}
+use Rattle.answer_rows.specs.Arranged.{Shown, kept, limited, match_order}
 use Rattle.answer_rows.specs.Orders.{numbers_order}
 use Rattle.graph_tables.specs.Graph.{PropertyGraph}
 use Rattle.typed_expr.specs.declared.query.Query.{Query}

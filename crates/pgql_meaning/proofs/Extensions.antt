@@ -1,5 +1,5 @@
 -- The assignments that begin with some numbers, by the number that comes next.
-use Rattle.std.proofs.Common.{◌≡◌, ℕ, ◌+◌, Bool, true, false, cond, List, [], ◌∷◌, ◌++◌, map, refl, ap, arith, ◌∙◌, zero, suc, append_assoc, append-nil}
+use Rattle.std.proofs.Common.{◌≡◌, ℕ, ◌+◌, Bool, false, List, [], ◌∷◌, ◌++◌, map, refl, ap, arith, ◌∙◌, zero, suc, append_assoc, append-nil}
 use Rattle.std.specs.List.{flat_map, range_with_len, filter}
 use Rattle.std.proofs.lemmas.Grind.{common_steps, flat_map-append}
 use Rattle.std.proofs.lemmas.List.Elements.{filter-append}

@@ -1,11 +1,9 @@
 -- With DISTINCT no row of an answer stands twice, and the row of each match stands there.
-use Rattle.std.proofs.Common.{◌≡◌, ◌≢◌, ◌⊎◌, inl, inr, ℕ, true, List, [], ◌∷◌, All, map, refl, sym, ap, subst, ◌∙◌}
-use Rattle.std.specs.List.{AllPairs, Contains, IsDistinct}
-use Rattle.std.specs.Ordering.{is_eq}
+use Rattle.std.proofs.Common.{◌≡◌, inl, inr, ℕ, true, List, [], ◌∷◌, All, map, refl, sym, ap, subst, ◌∙◌}
+use Rattle.std.specs.List.{Contains, IsDistinct}
 use Rattle.std.specs.Str.{bytes_eq}
-use Rattle.std.proofs.lemmas.List.Elements.{All-cons, All-contains_itself, All-nil}
-use Rattle.adfs_base.specs.declared.value.Value.{Value}
-use Rattle.sorted_lists.proofs.Among.{Among, Among-contained, Among-map, Among-mapped, Contains-among}
+use Rattle.std.proofs.lemmas.List.Elements.{All-cons, All-nil}
+use Rattle.sorted_lists.proofs.Among.{Among, Among-map, Among-mapped, Contains-among}
 use Rattle.answer_rows.specs.Arranged.{Shown, has_row}
 use Rattle.answer_rows.specs.Orders.{row_order}
 use Rattle.answer_rows.proofs.Once.{rows_of-each, rows_of-once}

@@ -9,7 +9,7 @@ use Rattle.typed_expr.specs.declared.query.EdgeJoin.{EdgeJoin}
 use Rattle.typed_expr.specs.declared.query.Query.{Query}
 use Rattle.typed_expr.specs.declared.query.Variable.{Variable}
 use Rattle.pgql_meaning.specs.Assignments.{extensions}
-use Rattle.pgql_meaning.specs.Captured.{captured, element_of, number_of}
+use Rattle.pgql_meaning.specs.Captured.{captured, number_of}
 use Rattle.pgql_meaning.specs.Fits.{Labels, Joined, Holds, fits, is_joined, is_labelled, is_number, meets, runs_between}
 use Rattle.pgql_meaning.specs.Pruned.{may_be, may_fit, may_join, may_label, may_label_at, may_run}
 use Rattle.pgql_meaning.proofs.Extensions.{extensions-none}

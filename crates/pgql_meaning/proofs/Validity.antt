@@ -1,18 +1,16 @@
 -- What an answer shows means something under the texts.
-use Rattle.std.proofs.Common.{◌≡◌, ◌<◌, ◌++◌, ℕ, Bool, true, false, cond, List, [], ◌∷◌, All, Option, Some, None, map, length, zero, suc, refl, subst, sym, nat_eq}
+use Rattle.std.proofs.Common.{◌≡◌, ◌++◌, ℕ, Bool, true, false, cond, List, [], ◌∷◌, All, Option, Some, None, map, zero, suc, refl, subst, nat_eq}
 use Rattle.std.specs.List.{AllByRecursion, slice_get}
 use Rattle.std.specs.Option.{option_and_then, option_map_or}
 use Rattle.std.proofs.lemmas.List.Elements.{All-cons, All-head, All-nil, All-tail}
 use Rattle.adfs_base.specs.declared.value.Value.{Value}
 use Rattle.adfs_base.specs.declared.value.Value.TheVariants as value
-use Rattle.answer_rows.specs.Arranged.{rows_of}
 use Rattle.answer_rows.proofs.Every.{All-rows_of}
 use Rattle.element_store.specs.Columns.{Cell, value_of}
 use Rattle.element_store.specs.Elements.{Element}
 use Rattle.graph_tables.specs.Graph.{IsShown, PropertyGraph, without_ends}
 use Rattle.typed_expr.specs.Parts.{HasValidConstants}
 use Rattle.typed_expr.specs.Val.{val}
-use Rattle.typed_expr.specs.WellFormed.{expressions}
 use Rattle.typed_expr.specs.declared.expr.Expr.{Expr}
 use Rattle.typed_expr.specs.declared.query.Capture.{Capture}
 use Rattle.typed_expr.specs.declared.query.Query.{Query}
@@ -22,7 +20,7 @@ use Rattle.typed_expr.specs.declared.query.What.TheVariants as what
 use Rattle.typed_expr.proofs.Validity.{value-valid}
 use Rattle.value_text.specs.Valid.{IsValid}
 use Rattle.pgql_meaning.specs.Answer.{answer_of, all_matches, arrangement_of, row_of, shown as assignment_shown}
-use Rattle.pgql_meaning.specs.Captured.{captured, captured_value, element_at, element_of, number_of, use_of}
+use Rattle.pgql_meaning.specs.Captured.{captured, captured_value, element_at, number_of, use_of}
 use Rattle.pgql_meaning.specs.Shown.{AreShown, HasMeaning, HasShown}
 
 -- ---- lists

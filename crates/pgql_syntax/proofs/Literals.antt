@@ -20,7 +20,7 @@ use Rattle.pgql_lexer.specs.Fronts.{front_of}
 use Rattle.pgql_lexer.specs.Tokens.{Lexed, with_front, lexed_after, tokens_from, tokens}
 use Rattle.pgql_syntax.specs.Lexemes.{Lexeme}
 use Rattle.pgql_syntax.specs.Seen.{seen}
-use Rattle.pgql_syntax.specs.Grammar.{IsExpr, IsWhole, IsItem, IsKey, Separated, alone, followed, Optional, absent, present, AreKeys, no_order, ordered, IsSelection, IsTail, IsQuery}
+use Rattle.pgql_syntax.specs.Grammar.{IsExpr, IsWhole, IsItem, IsKey, Separated, alone, followed, Optional, absent, present, AreKeys, no_order, ordered, IsQuery}
 use Rattle.pgql_syntax.specs.Grammar as g
 use Rattle.pgql_syntax.specs.Places.{IsTree}
 use Rattle.pgql_tree.specs.Literals.{literals_of, literals, condition_literals, item_literals, key_literals, query_literals}

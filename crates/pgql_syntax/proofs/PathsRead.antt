@@ -8,7 +8,7 @@ use Rattle.pgql_tree.specs.declared.ast.EdgePat.{EdgePat}
 use Rattle.pgql_tree.specs.declared.ast.Path.{Path}
 use Rattle.pgql_syntax.specs.declared.pattern.Spec.{Spec}
 use Rattle.pgql_syntax.specs.Lexemes.{Lexeme}
-use Rattle.pgql_syntax.specs.Grammar.{IsName, IsLabel, Separated, alone, followed, Perhaps, without, with_part, Many, no_more, one_more, AreLabels, any_label, labelled, IsSpec, IsEnclosed, vertex_of, IsVertex, edge_of, arrow, IsEdge, arrow_out, arrow_in, edge_out, edge_in, IsStep, IsPath}
+use Rattle.pgql_syntax.specs.Grammar.{IsName, IsLabel, AreLabels, any_label, labelled, IsSpec, IsEnclosed, vertex_of, IsVertex, edge_of, arrow, IsEdge, arrow_out, arrow_in, edge_out, edge_in, IsStep, IsPath}
 use Rattle.pgql_syntax.specs.Grammar as g
 use Rattle.pgql_syntax.specs.Reading.{and_then, ◌>>=◌, ◌>>◌, pure, take_token, expect, expect_by, expect_word, same_kind, placed}
 use Rattle.pgql_syntax.specs.Lists.{choose, separated, many}

@@ -13,7 +13,7 @@ use Rattle.pgql_syntax.specs.declared.query.Tail.{Tail}
 use Rattle.pgql_syntax.specs.declared.found.Found.{Found}
 use Rattle.pgql_tree.specs.declared.level.Level.TheVariants.{Or}
 use Rattle.pgql_syntax.specs.Lexemes.{Lexeme, value_of}
-use Rattle.pgql_syntax.specs.Grammar.{IsName, Separated, alone, followed, Optional, absent, present, IsExpr, IsWhole, IsItem, IsKey, IsDirection, no_word, up, down, IsPath, IsDistinct, every, distinct, AreKeys, no_order, ordered, IsLimit, IsSelection, IsPattern, IsTail, IsQuery, at_of}
+use Rattle.pgql_syntax.specs.Grammar.{IsName, Separated, alone, followed, Optional, absent, present, IsWhole, IsItem, IsKey, IsDirection, no_word, up, down, IsPath, IsDistinct, every, distinct, AreKeys, no_order, ordered, IsLimit, IsSelection, IsPattern, IsTail, IsQuery, at_of}
 use Rattle.pgql_syntax.specs.Grammar as g
 use Rattle.pgql_syntax.specs.Reading.{Refusal, unexpected, Outcome, and_then, ◌>>=◌, ◌>>◌, pure, take_token, expect, same_kind, read_expr, nested, read_level, chained, read_not, read_test, read_sign, read_primary}
 use Rattle.pgql_syntax.specs.Lists.{choose, separated, optional}

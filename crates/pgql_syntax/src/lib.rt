@@ -19,7 +19,6 @@
 #![tactic(auto)]
 
 mod expr;
-mod form;
 mod found;
 mod input;
 mod kind;
@@ -34,7 +33,6 @@ mod terminal;
 mod terminals;
 mod tree;
 
-pub use form::first_form;
 pub use pgql_print::{print, print_expr};
 pub use pgql_tree::{Ast, AstExpr, EdgePat, Item, Key, Op, Path, Placed, VertexPat};
 pub use round_trip::printed_is_read_back;

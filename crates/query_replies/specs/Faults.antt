@@ -1,5 +1,4 @@
 -- Why a query isn't answered, by number and place.
-use Rattle.std.specs.Prelude.{ℕ}
 use Rattle.pgql_lexer.specs.declared.token.LexFault.{LexFault}
 use Rattle.pgql_lexer.specs.declared.token.LexFault.TheVariants as lex
 use Rattle.pgql_syntax.specs.declared.tree.SyntaxFault.{SyntaxFault}

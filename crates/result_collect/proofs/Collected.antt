@@ -3,8 +3,7 @@ use Rattle.std.proofs.Common.{◌≡◌, ℕ, List, [], ◌∷◌, map, refl, ap
 use Rattle.std.specs.List.{IsDistinct}
 use Rattle.std.specs.List.Sorted.{IsPermutation}
 use Rattle.std.specs.Str.{bytes_eq}
-use Rattle.adfs_base.specs.declared.value.Value.{Value}
-use Rattle.answer_rows.specs.Arranged.{Shown, rows_of}
+use Rattle.answer_rows.specs.Arranged.{rows_of}
 use Rattle.graph_tables.specs.Graph.{PropertyGraph}
 use Rattle.match_context.specs.declared.context.Context.{Context}
 use Rattle.pgql_meaning.specs.Answer.{all_matches, answer_of, arrangement_of, shown, shown_by}

@@ -1,9 +1,8 @@
 -- What each call of a closure answers, from what one call does.
-use Rattle.std.proofs.Common.{◌≡◌, Bool, List, [], ◌∷◌, refl, ap, subst, sym, ◌∙◌}
+use Rattle.std.proofs.Common.{◌≡◌, List, [], ◌∷◌, refl, ap, subst}
 use denote.Ref.{Bor}
 use denote.Param.Members.{Mut}
-use Rattle.std.specs.Cmp.{IsTotalOrder}
-use Rattle.std.specs.Fn.{AlwaysReturns, Called, ComparesAs, ReturnsEach}
+use Rattle.std.specs.Fn.{Called, ComparesAs, ReturnsEach}
 use Rattle.std.specs.Ordering.{is_lt}
 use Rattle.std.specs.declared.cmp.Ordering.{Ordering}
 use Rattle.sorted_lists.specs.Sorted.{before_by}

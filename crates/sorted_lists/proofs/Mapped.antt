@@ -1,5 +1,5 @@
 -- Lists in order whose items are mapped.
-use Rattle.std.proofs.Common.{◌≡◌, Bool, true, false, cond, List, [], ◌∷◌, map, refl, ap, ◌∙◌}
+use Rattle.std.proofs.Common.{◌≡◌, Bool, true, false, List, [], ◌∷◌, map, refl, ap, ◌∙◌}
 use Rattle.sorted_lists.specs.Sorted.{placed, in_order}
 
 module _ {X Y : Type 0} (f : X → Y) (before : X → X → Bool) (before' : Y → Y → Bool) (same : (a b : X) → before' (f a) (f b) ≡ before a b) where

@@ -1,5 +1,5 @@
 -- A fact of each expression, from the same fact of its parts.
-use Rattle.std.proofs.Common.{◌≡◌, sym, subst, ℕ, ℤ, Bool, List}
+use Rattle.std.proofs.Common.{sym, subst, ℕ, ℤ, Bool, List}
 use Rattle.pgql_tree.specs.declared.ast.AstExpr.{AstExpr, roll-AstExpr}
 use Rattle.pgql_tree.specs.declared.ast.AstExpr.TheOpen.{AstExpr-F}
 use Rattle.pgql_tree.specs.declared.ast.AstExpr.TheFolds.{ind-AstExpr, map-AstExpr}

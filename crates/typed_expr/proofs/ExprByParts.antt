@@ -1,5 +1,5 @@
 -- A fact of each expression of a query, from the same fact of its parts.
-use Rattle.std.proofs.Common.{◌≡◌, sym, subst, ℕ, Bool}
+use Rattle.std.proofs.Common.{sym, subst, ℕ, Bool}
 use Rattle.adfs_base.specs.declared.value.Value.{Value}
 use Rattle.pgql_tree.specs.declared.ast.Op.{Op}
 use Rattle.typed_expr.specs.declared.expr.Expr.{Expr, roll-Expr}

@@ -1,11 +1,11 @@
 -- What the groups of variables tell of a set that has of each link both ends or neither.
-use Rattle.std.proofs.Common.{◌≡◌, ◌∙◌, ℕ, zero, suc, ◌+◌, ◌<◌, Bool, true, false, if◌then◌else◌, List, [], ◌∷◌, length, map, get_or, refl, sym, ap, subst, arith}
-use Rattle.std.specs.Prelude.{◌==◌, not, fold, filter, slice_index}
+use Rattle.std.proofs.Common.{◌≡◌, ◌∙◌, ℕ, ◌+◌, ◌<◌, Bool, true, false, if◌then◌else◌, List, [], ◌∷◌, length, map, refl, sym, ap, arith}
+use Rattle.std.specs.Prelude.{◌==◌, fold, slice_index}
 use Rattle.std.specs.List.{AllByRecursion, range_with_len}
 use Rattle.std.proofs.lemmas.Bool.{eqb-true}
 use Rattle.std.proofs.lemmas.List.{get_or-map, length-map}
 use Rattle.std.proofs.lemmas.List.FromFn.{get_or-range_with_len, length-range_with_len}
-use Rattle.typed_expr.specs.Joined.{disconnected, groups_of, linked_groups, merged, moved}
+use Rattle.typed_expr.specs.Joined.{disconnected, groups_of, linked_groups, moved}
 
 -- both ends of a link are among so many variables
 pub record LinksWithin (count : ℕ) (link : ℕ × ℕ) : Type 0 where

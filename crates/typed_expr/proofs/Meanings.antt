@@ -1,21 +1,17 @@
 -- What holds of the meaning of each expression: its captures are there, its constants are valid, and it doesn't
 -- depend on places.
-use Rattle.std.proofs.Common.{◌≡◌, ◌∙◌, refl, sym, ap, subst, ℕ, ℤ, pos, ◌+◌, ◌≤◌, ◌<◌, Bool, true, false, ◌&&◌, if◌then◌else◌, List, [], ◌∷◌, ◌++◌, length, map, Option, Some, None, arith}
-use Rattle.std.specs.Prelude.{◌==◌}
-use Rattle.std.specs.List.{AllByRecursion, cons_option, list_any, position_or_len, slice_get}
+use Rattle.std.proofs.Common.{◌≡◌, ◌∙◌, refl, sym, ap, subst, ℕ, ℤ, ◌<◌, Bool, true, ◌&&◌, List, [], length, map, Option, Some, None, arith}
+use Rattle.std.specs.List.{AllByRecursion, cons_option, position_or_len}
 use Rattle.std.specs.Str.{bytes_eq}
 use Rattle.std.proofs.lemmas.Bool.{eq-eqb}
 use Rattle.std.proofs.lemmas.List.{length-map}
 use Rattle.std.proofs.lemmas.Option.{slice_get_within}
 use Rattle.std.proofs.lemmas.Slice.Eq.{bytes_eq-Decides}
 use Rattle.adfs_base.specs.declared.value.Kind.{Kind}
-use Rattle.adfs_base.specs.declared.value.Value.{Value}
 use Rattle.adfs_base.specs.declared.value.Value.TheVariants as value
 use Rattle.graph_tables.specs.Properties.{SchemaLists}
 use Rattle.pgql_tree.specs.declared.ast.AstExpr.{AstExpr}
 use Rattle.pgql_tree.specs.declared.ast.AstExpr.TheVariants as ast
-use Rattle.pgql_tree.specs.declared.ast.Op.{Op}
-use Rattle.pgql_tree.specs.declared.ast.Placed.{Placed}
 use Rattle.pgql_tree.specs.Same.{bare, bare_name}
 use Rattle.pgql_tree.proofs.Bare as bare
 use Rattle.value_text.specs.Dates.{IsDay, date_cell}

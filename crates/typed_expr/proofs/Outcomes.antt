@@ -1,9 +1,9 @@
 -- What is answered where there is a first fault, and where there is none.
-use Rattle.std.proofs.Common.{◌≡◌, ◌∙◌, ℕ, List, length, take, Option, Some, None, Result, Ok, Err, refl, sym, ap, arith}
+use Rattle.std.proofs.Common.{◌≡◌, ◌∙◌, ℕ, List, length, Option, Some, None, Result, Ok, Err, refl, sym, ap, arith}
 use Rattle.std.specs.Prelude.{fold}
 use Rattle.std.proofs.lemmas.List.{take_all}
 use Rattle.pgql_tree.specs.declared.ast.Ast.{Ast}
-use Rattle.value_text.specs.Texts.{Kept, with_text}
+use Rattle.value_text.specs.Texts.{with_text}
 use Rattle.typed_expr.specs.declared.fault.TypeFault.{TypeFault}
 use Rattle.typed_expr.specs.declared.fault.TypeFault.TheVariants as fault
 use Rattle.typed_expr.specs.declared.query.Query.{Query}

@@ -1,7 +1,7 @@
 -- The query of a tree without faults is well formed, and its constants are valid.
-use Rattle.std.proofs.Common.{◌≡◌, ◌∙◌, refl, sym, ap, subst, ℕ, suc, ◌+◌, ◌≤◌, ◌<◌, Bool, true, false, ◌&&◌, if◌then◌else◌, List, [], ◌∷◌, ◌++◌, length, map, Option, Some, None, arith}
-use Rattle.std.specs.Prelude.{not, filter, find, flat_map, fold, slice_index, All}
-use Rattle.std.specs.List.{AllByRecursion, Contains, list_any, slice_get}
+use Rattle.std.proofs.Common.{◌≡◌, ◌∙◌, refl, sym, ap, subst, ℕ, suc, ◌+◌, ◌≤◌, ◌<◌, Bool, true, false, List, [], ◌∷◌, ◌++◌, length, map, Option, Some, None, arith}
+use Rattle.std.specs.Prelude.{not, find, flat_map, fold, slice_index, All}
+use Rattle.std.specs.List.{AllByRecursion, Contains, list_any}
 use Rattle.std.specs.Option.{option_and_then}
 use Rattle.std.specs.Str.{bytes_eq}
 use Rattle.std.proofs.lemmas.List.{append-nil, length-map}
@@ -17,10 +17,7 @@ use Rattle.value_text.specs.Texts.{with_text}
 use Rattle.typed_expr.specs.declared.expr.Expr.{Expr}
 use Rattle.typed_expr.specs.declared.expr.Expr.TheVariants as expr
 use Rattle.typed_expr.specs.declared.fault.TypeFault.{TypeFault}
-use Rattle.typed_expr.specs.declared.fault.TypeFault.TheVariants as fault
 use Rattle.typed_expr.specs.declared.query.Capture.{Capture}
-use Rattle.typed_expr.specs.declared.query.Query.{Query}
-use Rattle.typed_expr.specs.declared.query.Variable.{Variable}
 use Rattle.typed_expr.specs.declared.scope.Declared.{Declared}
 use Rattle.typed_expr.specs.declared.scope.Scope.{Scope}
 use Rattle.typed_expr.specs.Faults.{earlier, earlier_of, first_of}
@@ -31,7 +28,7 @@ use Rattle.typed_expr.specs.Parts.{HasCapturesBelow, HasValidConstants}
 use Rattle.typed_expr.specs.Same.{same}
 use Rattle.typed_expr.specs.Scope.{scope_of}
 use Rattle.typed_expr.specs.Typed as spec
-use Rattle.typed_expr.specs.Uses.{literals, same_use, uses, with_use}
+use Rattle.typed_expr.specs.Uses.{literals, same_use, uses}
 use Rattle.typed_expr.specs.WellFormed.{IsClosed, IsVertex, IsWellFormed, JoinsVertices, are_edges, edges_from, expressions, vertices_from}
 use Rattle.typed_expr.proofs.Added.{IsIn, added-keep, all-added, all-join, all-split}
 use Rattle.typed_expr.proofs.Conjuncts as conj

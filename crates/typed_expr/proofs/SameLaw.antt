@@ -1,5 +1,5 @@
 -- `same` answers true exactly where two expressions are equal apart from places.
-use Rattle.std.proofs.Common.{◌≡◌, ◌∙◌, refl, sym, ap, ℕ, ℤ, Bool, true, false, ◌&&◌, List, [], ◌∷◌, get_or, Option, Some, None}
+use Rattle.std.proofs.Common.{◌≡◌, ◌∙◌, refl, sym, ap, ℕ, ℤ, Bool, true, false, ◌&&◌, List, [], ◌∷◌, get_or}
 use Rattle.std.specs.Bool.{Decides}
 use Rattle.std.proofs.lemmas.Bool.Decides.{Decides-and, Decides-at, Decides-eqb, Decides-int_eq, Decides-like}
 use Rattle.std.specs.Ordering.{int_eq}
@@ -14,7 +14,7 @@ use Rattle.pgql_tree.specs.declared.ast.Placed.{Placed}
 use Rattle.pgql_tree.specs.Same.{bare}
 use Rattle.pgql_tree.proofs.Bare as bare
 use Rattle.typed_expr.specs.Same.{is_binary, is_bool, is_date, is_id, is_inside, is_int, is_label, is_name, is_null_test, is_property, is_text, neg_inside, not_inside, null_test_inside, op_number, same, same_op, same_truth, sides}
-use Rattle.typed_expr.proofs.AstByParts.{HoldsByParts, by_parts}
+use Rattle.typed_expr.proofs.AstByParts.{by_parts}
 use Rattle.typed_expr.proofs.Sames as test
 
 -- the two are equal apart from places exactly where `same` says so

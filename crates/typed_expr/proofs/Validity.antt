@@ -1,5 +1,5 @@
 -- The value of an expression means something where its constants and the captured values do.
-use Rattle.std.proofs.Common.{◌≡◌, ◌<◌, ℕ, ℤ, Bool, true, false, cond, List, [], ◌∷◌, All, pos, zero, suc, Option, Some, None, length, refl, subst, sym, slice_index_or, arith}
+use Rattle.std.proofs.Common.{◌≡◌, ℕ, ℤ, Bool, true, false, cond, List, [], ◌∷◌, All, pos, zero, suc, Option, Some, None, refl, subst, sym, slice_index_or}
 use Rattle.std.specs.Prelude.{neg_ℤ, ◌+ℤ◌, ◌-ℤ◌, ◌*ℤ◌}
 use Rattle.std.specs.Int.RustNames.{int_div, int_rem}
 use Rattle.std.specs.Option.{option_map}
@@ -14,8 +14,8 @@ use Rattle.typed_expr.specs.declared.expr.Expr.{Expr}
 use Rattle.typed_expr.specs.declared.expr.Expr.TheVariants as expr
 use Rattle.typed_expr.specs.Parts.{HasValidConstants}
 use Rattle.typed_expr.specs.Val.{applied, arithmetic, compared, computed, conjunction, disjunction, minus, negation, null_test, order_of, truth_of, val, whole}
-use Rattle.typed_expr.proofs.ExprByParts.{HoldsByParts, by_parts}
-use Rattle.typed_expr.proofs.Parts.{constant_is_valid, inside-IsNull, inside-Neg, inside-Not, left-Binary, right-Binary, val-Binary, val-Captured, val-Constant, val-IsNull, val-Neg, val-Not}
+use Rattle.typed_expr.proofs.ExprByParts.{by_parts}
+use Rattle.typed_expr.proofs.Parts.{constant_is_valid, val-Binary, val-Captured, val-Constant, val-IsNull, val-Neg, val-Not}
 use Rattle.value_text.specs.Numbers.{is_i64}
 use Rattle.value_text.specs.Valid.{IsValid}
 

@@ -1,9 +1,8 @@
 -- Which vertices edge patterns join.
-use Rattle.std.specs.Prelude.{ℕ, ◌==◌, not, if◌then◌else◌, List, [], ◌∷◌, map, fold, filter, slice_index}
+use Rattle.std.specs.Prelude.{ℕ, ◌==◌, not, if◌then◌else◌, List, map, fold, filter, slice_index}
 use Rattle.std.specs.List.{range_with_len}
 use Rattle.typed_expr.specs.declared.fault.TypeFault.{TypeFault}
 use Rattle.typed_expr.specs.declared.fault.TypeFault.TheVariants as fault
-use Rattle.typed_expr.specs.declared.scope.Scope.{Scope}
 
 abbrev pub moved : ℕ → ℕ → ℕ → ℕ
 moved from to group = if group == from then to else group

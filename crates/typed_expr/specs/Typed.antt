@@ -1,6 +1,6 @@
 -- What a query means, or the first reason why it means nothing.
-use Rattle.std.specs.Prelude.{◌≡◌, ℕ, ◌+◌, ◌==◌, ◌&&◌, Bool, true, false, not, if◌then◌else◌, List, [], ◌∷◌, ◌++◌, length, map, filter, find, flat_map, fold, Option, Some, None, Result, Ok, Err}
-use Rattle.std.specs.List.{list_any, cons_option}
+use Rattle.std.specs.Prelude.{◌≡◌, ℕ, ◌+◌, ◌==◌, ◌&&◌, Bool, false, not, if◌then◌else◌, List, [], ◌∷◌, ◌++◌, length, map, filter, find, flat_map, fold, Option, Some, None, Result, Ok, Err}
+use Rattle.std.specs.List.{list_any}
 use Rattle.std.specs.Option.{option_and_then}
 use Rattle.std.specs.Str.{bytes_eq}
 use Rattle.adfs_base.specs.declared.value.Kind.TheVariants as kind
@@ -29,7 +29,7 @@ use Rattle.typed_expr.specs.Printed.{printed}
 use Rattle.graph_tables.specs.Properties.{SchemaLists}
 use Rattle.typed_expr.specs.Same.{same}
 use Rattle.typed_expr.specs.Scope.{scope_of}
-use Rattle.typed_expr.specs.Uses.{literals, uses, with_use}
+use Rattle.typed_expr.specs.Uses.{uses, with_use}
 
 abbrev pub alone_of : AstExpr-F (Option (List ℕ)) → Option (List ℕ)
 alone_of (AstExpr-F.Name name at) = Some name

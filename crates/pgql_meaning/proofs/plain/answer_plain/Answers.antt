@@ -1,4 +1,4 @@
-use Rattle.std.proofs.Common.{◌≡◌, ℕ, ◌++◌, All, Bool, List, [], Result, Ok, Err, IfOk, filter, map, refl, sym, ap, subst, ◌∙◌}
+use Rattle.std.proofs.Common.{◌≡◌, ℕ, ◌++◌, List, [], Result, Ok, Err, IfOk, map, sym, ap, subst}
 use Rattle.answer_rows.specs.Arranged.{Arrangement, Shown, rows_of}
 use Rattle.graph_tables.specs.Graph.{PropertyGraph}
 use Rattle.typed_expr.specs.declared.query.Query.{Query}

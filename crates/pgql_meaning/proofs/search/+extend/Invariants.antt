@@ -1,4 +1,4 @@
-use Rattle.std.proofs.Common.{◌≡◌, ◌++◌, length, map}
+use Rattle.std.proofs.Common.{◌≡◌, ◌++◌, length}
 use Rattle.pgql_meaning.specs.Answer.{shown}
 use Rattle.pgql_meaning.specs.Assignments.{ranges_of}
 use Rattle.pgql_meaning.specs.Fits.{fits}

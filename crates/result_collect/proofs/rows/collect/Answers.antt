@@ -1,4 +1,4 @@
-use Rattle.std.proofs.Common.{◌≡◌, ℕ, List, Result, Ok, Err, IfOk, map, ◌∙◌}
+use Rattle.std.proofs.Common.{◌≡◌, Result, Ok, Err, IfOk, map, ◌∙◌}
 use Rattle.answer_rows.specs.Arranged.{rows_of}
 use Rattle.pgql_meaning.specs.Answer.{arrangement_of}
 use Rattle.result_collect.specs.Contexts.{shown_in}
