@@ -1,3 +1,4 @@
 pub mod Completions
+pub mod FilesNamed
 pub mod Numbers
 pub mod Refusals

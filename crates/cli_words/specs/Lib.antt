@@ -1,5 +1,6 @@
 pub mod Defaults
 pub mod Fault
+pub mod Files
 pub mod Form
 pub mod Help
 pub mod Laws

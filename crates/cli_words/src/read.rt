@@ -1,8 +1,9 @@
-ghost use Rattle.std.specs.Prelude.{◌≡◌, ◌≤◌, map};
+ghost use Rattle.std.specs.Prelude.{◌≡◌, ◌≤◌, IfOk, map};
 ghost use Rattle.std.specs.String.{string_bytes};
 ghost use Rattle.cli_words.specs.Form.{options_of, read_on};
 ghost use Rattle.cli_words.specs.Said.{to_come};
 ghost use Rattle.cli_words.specs.Fault.{GivesOptions};
+ghost use Rattle.cli_words.specs.Files.{HasItsFiles};
 
 use crate::command::command_named;
 use crate::options::Options;
@@ -25,12 +26,14 @@ pub enum UsageFault {
 /// An option is `--name value` or `--name=value`, and is given at most once. The word after `--name` is its
 /// value, whatever it begins with. Any other word that begins with `-` is no part of a command line. A number
 /// is 1 to 20 decimal digits within its range. A file word, and the file of `--part listed:FILE`, isn't empty
-/// and has no byte below 0x20.
+/// and has no byte below 0x20. The options name as many files as their command has: two for `run`, `trace` and
+/// `plan`, one for `replay`.
 ///
 /// `Word` comes exactly where the words are no command line. A value out of its range is refused at the word
 /// that holds it, an option's name at which nothing follows at the number of words.
 pub fn read_words(alloc: Global, words: &[String]) -> Result<Options, UsageFault>
-    ensures { GivesOptions result (options_of (map string_bytes words.now)) }
+    ensures gives { GivesOptions result (options_of (map string_bytes words.now)) }
+    ensures files { IfOk result HasItsFiles }
 {
     let [first, rest @ ..] = words else {
         return Err(UsageFault::Word(0));
