@@ -1,2 +1,3 @@
-pub mod QueryFile
+pub mod FileFacts
 pub mod Steps
+pub mod WordFacts

@@ -1,21 +1,22 @@
 -- A run whose first step went well, by what its second step gave.
-use Rattle.std.proofs.Common.{◌≡◌, ℕ, ◌+◌, ◌-◌, ◌^◌, ◌≤◌, min, Global, List, Vec, ◌∷◌, ◌++◌, length, map, take, append_assoc, ap, sym, ◌∙◌, Option, Some, None, Result, Ok, Err, IfSome, IfErr, MatchOption, arith, subst, refl}
-use Rattle.adfs_base.specs.Counts.{Rose, counted}
+use Rattle.std.proofs.Common.{◌≡◌, ℕ, ◌+◌, ◌-◌, ◌≤◌, min, Global, List, Vec, ◌∷◌, ◌++◌, length, map, take, append_assoc, ap, sym, ◌∙◌, Option, Some, None, Result, Ok, Err, IsOk, ◌⊎◌, inl, inr, IfSome, IfErr, MatchOption, arith, subst, refl}
+use Rattle.adfs_base.specs.Counts.{Rose}
 use Rattle.std.proofs.Math.Seq.{take-append-add}
+use Rattle.std.proofs.lemmas.Bool.Decides.{nat_tests}
 use Rattle.std.proofs.lemmas.Grind.{common_steps}
 use Rattle.std.proofs.lemmas.List.{take-append-le, take_min}
 use Rattle.adfs_base.specs.Bytes.{took, TookFront}
-use Rattle.adfs_base.specs.Files.{Files}
 use Rattle.graph_tables.specs.Graph.{IsWhole, PropertyGraph}
 use Rattle.graph_tables.specs.Properties.{SchemaLists}
 use Rattle.pgql_lexer.specs.Pieces.{pieces}
 use Rattle.pgql_meaning.specs.Shown.{HasShown}
+use Rattle.cli_words.specs.declared.options.Options.{Options}
 use Rattle.query_replies.specs.Replies.{AreReplies}
 use Rattle.query_replies.specs.declared.answers.Replies.{Replies}
-use Rattle.adfs_top.specs.Causes.{AnswersGive, EndsPuts, FailsAt, IsAnswered, IsOfFiles, IsOfText, PartGives, Puts, PutsNothing, StoreCause, joined}
+use Rattle.adfs_top.specs.Causes.{EndsPuts, FailsAt, FailsAtFile, IsBeforePuts, IsDoneBy, IsOfFiles, IsOfText, IsOfWords, PartGives, Puts, PutsNothing, RepliesGive, StoreCause, WordsGive, joined}
 use Rattle.adfs_top.specs.Faults.{status_of_cell, status_of_fault, status_of_kind}
-use Rattle.adfs_top.specs.Outcome.{◌>>~◌, Job, few_places, job_of, job_of_files, job_of_text, with_usage, without_texts}
-use Rattle.adfs_top.specs.Words.{options_of}
+use Rattle.adfs_top.specs.Outcome.{Answers, Work, few_places, work_of_text, without_texts}
+use Rattle.adfs_top.specs.Steps.{◌>>~◌}
 use Rattle.graph_tables.specs.Faults as tables
 use Rattle.graph_tables.specs.declared.faults.TableFault.{TableFault}
 use Rattle.graph_tables.specs.declared.faults.TableKind.{TableKind}
@@ -24,47 +25,49 @@ use Rattle.value_text.specs.declared.cells.CellFault.{CellFault}
 use Rattle.value_text.specs.declared.cells.CellFault.TheVariants as cell
 use Rattle.adfs_top.specs.declared.status.Status.{Status}
 use Rattle.adfs_top.specs.declared.status.Status.TheVariants as variant
-use Rattle.adfs_top.specs.declared.status.Status.TheVariants.{Done, Limit, Missing, NoMemory, ReadFault, SomeRefused, Usage, WriteFault}
+use Rattle.adfs_top.specs.declared.status.Status.TheVariants.{Done, Limit, Missing, NoMemory, NotBuilt, OwnerFault, ReadFault, SomeRefused, Usage, WriteFault}
 
 -- ---- what the steps give
 
 -- a step that fails, before another
-failed : {X Y : Type 0} (view : X → Y) (status : Status) (part : Result Y Status) (next : Y → Result Job Status) → PartGives view (Err status) part → AnswersGive (Err status) (part >>~ next)
+failed : {X Y : Type 0} (view : X → Y) (status : Status) (part : Result Y Status) (next : Y → Result Work Status) → PartGives view (Err status) part → RepliesGive (Err status) (part >>~ next)
 failed view Done part next gives = rw gives refl
 failed view SomeRefused part next gives = rw gives refl
 failed view (Usage word) part next gives = rw gives refl
 failed view (variant.TableFault file row column code cell) part next gives = rw gives refl
+failed view (OwnerFault e) part next gives = rw gives refl
 failed view (ReadFault file) part next gives = tt
 failed view (Missing file) part next gives = rw gives refl
 failed view WriteFault part next gives = rw gives refl
 failed view NoMemory part next gives = tt
 failed view (Limit quantity number) part next gives = rw gives refl
+failed view (NotBuilt what) part next gives = rw gives refl
 
-pub fails_before : {X Y : Type 0} (view : X → Y) (result : Result X Status) (status : Status) (part : Result Y Status) (next : Y → Result Job Status) → result ≡ Err status → PartGives view result part
-    → AnswersGive (Err status) (part >>~ next)
+pub fails_before : {X Y : Type 0} (view : X → Y) (result : Result X Status) (status : Status) (part : Result Y Status) (next : Y → Result Work Status) → result ≡ Err status → PartGives view result part
+    → RepliesGive (Err status) (part >>~ next)
 fails_before view result status part next is gives = failed view status part next (subst (λ r. PartGives view r part) is gives)
 
-pub fails_told : {X Y F : Type 0} (view : X → Y) (files : Option F) (result : Result X Status) (status : Status) (part : F → Result Y Status) (next : F → Y → Result Job Status) → result ≡ Err status
-    → IfSome files (λ told. PartGives view result (part told)) → IfSome files (λ told. AnswersGive (Err status) (part told >>~ next told))
+pub fails_told : {X Y F : Type 0} (view : X → Y) (files : Option F) (result : Result X Status) (status : Status) (part : F → Result Y Status) (next : F → Y → Result Work Status) → result ≡ Err status
+    → IfSome files (λ told. PartGives view result (part told)) → IfSome files (λ told. RepliesGive (Err status) (part told >>~ next told))
 fails_told view None result status part next is gives = tt
 fails_told view (Some told) result status part next is gives = fails_before view result status (part told) (next told) is gives
 
 -- a step that goes well, before another
-pub goes_on : {Y : Type 0} (part : Result Y Status) (x : Y) (next : Y → Result Job Status) (result : Result Replies Status) → part ≡ Ok x → AnswersGive result (next x) → AnswersGive result (part >>~ next)
+pub goes_on : {Y : Type 0} (part : Result Y Status) (x : Y) (next : Y → Result Work Status) (result : Result Replies Status) → part ≡ Ok x → RepliesGive result (next x) → RepliesGive result (part >>~ next)
 goes_on part x next result is gives = rw is gives
 
-pub goes_on_told : {Y F : Type 0} (files left : Option F) (part : F → Result Y Status) (x : Y) (next : F → Y → Result Job Status) (result : Result Replies Status) → left ≡ files
-    → IfSome files (λ told. part told ≡ Ok x) → IfSome left (λ told. AnswersGive result (next told x)) → IfSome files (λ told. AnswersGive result (part told >>~ next told))
+pub goes_on_told : {Y F : Type 0} (files left : Option F) (part : F → Result Y Status) (x : Y) (next : F → Y → Result Work Status) (result : Result Replies Status) → left ≡ files
+    → IfSome files (λ told. part told ≡ Ok x) → IfSome left (λ told. RepliesGive result (next told x)) → IfSome files (λ told. RepliesGive result (part told >>~ next told))
 goes_on_told None left part x next result kept is gives = tt
 goes_on_told (Some told) left part x next result kept is gives =
-    goes_on (part told) x (next told) result is (subst (λ f. IfSome f (λ told'. AnswersGive result (next told' x))) kept gives)
+    goes_on (part told) x (next told) result is (subst (λ f. IfSome f (λ told'. RepliesGive result (next told' x))) kept gives)
 
 -- what was answered
 pub answered : (graph : PropertyGraph) (schema : SchemaLists) (texts : List (List ℕ)) (text : List ℕ) (places : List (ℕ × ℕ)) (last : List (List ℕ)) (replies : Replies)
     → few_places (pieces text) ≡ Ok places → AreReplies graph schema text 1 places texts last (map (λ t. t.items) replies.texts.items) replies.refused
-    → AnswersGive (Ok replies) (job_of_text graph schema texts text)
+    → RepliesGive (Ok replies) (work_of_text graph schema texts text)
 answered graph schema texts text places last replies is are =
-    (record { graph = graph; schema = schema; texts = texts; file = text; places = places }, rw is refl, (last, are))
+    (Answers (record { graph = graph; schema = schema; texts = texts; file = text; places = places }), rw is refl, (last, are))
 
 -- the graph of the tables means something under their texts
 pub shown_of : (graph : PropertyGraph) → IsWhole graph → HasShown graph.texts (without_texts graph)
@@ -134,16 +137,49 @@ pub place_in : {X : Type 0} (first last low high : ℕ) (result : Result X Statu
 place_in first last low high (Ok x) a b h = tt
 place_in first last low high (Err status) a b h = place_among first last low high status a b h
 
+-- a file of these is one that a run reads
+pub of_run : (first last : ℕ) (status : Status) → (last ≤ 257) ⊎ ((first ≡ 259) × (last ≡ 259)) → FailsAt first last status → FailsAtFile status
+of_run first last (ReadFault file) (inl low) at = grind (arith, nat_tests, low, at.0, at.1)
+of_run first last (ReadFault file) (inr owner) at = grind (arith, nat_tests, owner.0, owner.1, at.0, at.1)
+of_run first last status among at = tt
+
+pub place_of_run : {X : Type 0} (first last : ℕ) (result : Result X Status) → (last ≤ 257) ⊎ ((first ≡ 259) × (last ≡ 259)) → IfErr result (FailsAt first last) → IfErr result FailsAtFile
+place_of_run first last (Ok x) among at = tt
+place_of_run first last (Err status) among at = of_run first last status among at
+
+-- ---- the words
+
+words_gave : (status : Status) (words : Result Options Status) → IsOfWords status → PartGives (λ options. options) (Err status) words → WordsGive status words
+words_gave (Usage word) words is gives = gives
+words_gave (NotBuilt what) words is gives = gives
+words_gave NoMemory words is gives = tt
+words_gave status words is gives = absurd is
+
+pub words_give : (result : Result Options Status) (status : Status) (words : Result Options Status) → result ≡ Err status → IsOfWords status → PartGives (λ options. options) result words → WordsGive status words
+words_give result status words was is gives = words_gave status words is (subst (λ r. PartGives (λ options. options) r words) was gives)
+
+words_passed : (status : Status) (words : Result Options Status) → IsOk words → IsOfFiles status → WordsGive status words
+words_passed (Usage word) words ok is = absurd is
+words_passed (NotBuilt what) words ok is = absurd is
+words_passed NoMemory words ok is = tt
+words_passed status words ok is = ok
+
+pub passed_by : {X : Type 0} (result : Result X Status) (words : Result Options Status) → IsOk words → IfErr result IsOfFiles → IfErr result (λ status. WordsGive status words)
+passed_by (Ok x) words ok is = tt
+passed_by (Err status) words ok is = words_passed status words ok is
+
 -- ---- the work on a text
 
 -- it reads no file
 of_text_cause : {F : Type 0} (status : Status) (files : Option F) (faults faults_now misses misses_now : ℕ) → IsOfText status → StoreCause status files faults faults_now misses misses_now
 of_text_cause NoMemory files faults faults_now misses misses_now is = tt
 of_text_cause (Limit quantity number) files faults faults_now misses misses_now is = tt
+of_text_cause (NotBuilt what) files faults faults_now misses misses_now is = absurd is
 of_text_cause Done files faults faults_now misses misses_now is = absurd is
 of_text_cause SomeRefused files faults faults_now misses misses_now is = absurd is
 of_text_cause (Usage word) files faults faults_now misses misses_now is = absurd is
 of_text_cause (variant.TableFault file row column code cell) files faults faults_now misses misses_now is = absurd is
+of_text_cause (OwnerFault e) files faults faults_now misses misses_now is = absurd is
 of_text_cause (ReadFault file) files faults faults_now misses misses_now is = absurd is
 of_text_cause (Missing file) files faults faults_now misses misses_now is = absurd is
 of_text_cause WriteFault files faults faults_now misses misses_now is = absurd is
@@ -151,10 +187,12 @@ of_text_cause WriteFault files faults faults_now misses misses_now is = absurd i
 of_text_files : (status : Status) → IsOfText status → IsOfFiles status
 of_text_files NoMemory is = tt
 of_text_files (Limit quantity number) is = tt
+of_text_files (NotBuilt what) is = is
 of_text_files Done is = is
 of_text_files SomeRefused is = is
 of_text_files (Usage word) is = is
 of_text_files (variant.TableFault file row column code cell) is = tt
+of_text_files (OwnerFault e) is = tt
 of_text_files (ReadFault file) is = tt
 of_text_files (Missing file) is = tt
 of_text_files WriteFault is = is
@@ -162,10 +200,12 @@ of_text_files WriteFault is = is
 of_text_place : (status : Status) (first last : ℕ) → IsOfText status → FailsAt first last status
 of_text_place NoMemory first last is = tt
 of_text_place (Limit quantity number) first last is = tt
+of_text_place (NotBuilt what) first last is = tt
 of_text_place Done first last is = tt
 of_text_place SomeRefused first last is = tt
 of_text_place (Usage word) first last is = tt
 of_text_place (variant.TableFault file row column code cell) first last is = tt
+of_text_place (OwnerFault e) first last is = tt
 of_text_place (ReadFault file) first last is = absurd is
 of_text_place (Missing file) first last is = tt
 of_text_place WriteFault first last is = tt
@@ -213,25 +253,51 @@ front_of_others texts others text old mid new is is_mid front = (
 )
 
 -- a run that came to its puts
-puts_of : (status : Status) (replies : Replies) (outcome : Result Job Status) (old new : Option (List ℕ)) → AnswersGive (Ok replies) outcome → EndsPuts status replies old new
+puts_of : (status : Status) (replies : Replies) (outcome : Result Work Status) (old new : Option (List ℕ)) → RepliesGive (Ok replies) outcome → EndsPuts status replies old new
     → Puts status outcome old new
 puts_of Done replies outcome old new gives ends =
-    (gives.0, map (λ text. text.items) replies.texts.items, gives.1, subst (IsAnswered gives.0 (map (λ text. text.items) replies.texts.items)) ends.0 gives.2, ends.1)
+    (gives.0, map (λ text. text.items) replies.texts.items, gives.1, subst (IsDoneBy gives.0 (map (λ text. text.items) replies.texts.items)) ends.0 gives.2, ends.1)
 puts_of SomeRefused replies outcome old new gives ends =
-    (gives.0, map (λ text. text.items) replies.texts.items, gives.1, subst (IsAnswered gives.0 (map (λ text. text.items) replies.texts.items)) ends.0 gives.2, ends.1)
+    (gives.0, map (λ text. text.items) replies.texts.items, gives.1, subst (IsDoneBy gives.0 (map (λ text. text.items) replies.texts.items)) ends.0 gives.2, ends.1)
 puts_of WriteFault replies outcome old new gives ends = (gives.0, map (λ text. text.items) replies.texts.items, replies.refused, gives.1, gives.2, ends)
 puts_of (Usage word) replies outcome old new gives ends = absurd ends
 puts_of (variant.TableFault file row column code cell) replies outcome old new gives ends = absurd ends
+puts_of (OwnerFault e) replies outcome old new gives ends = absurd ends
 puts_of (ReadFault file) replies outcome old new gives ends = absurd ends
 puts_of (Missing file) replies outcome old new gives ends = absurd ends
 puts_of NoMemory replies outcome old new gives ends = absurd ends
 puts_of (Limit quantity number) replies outcome old new gives ends = absurd ends
+puts_of (NotBuilt what) replies outcome old new gives ends = absurd ends
 
-pub puts_told : (files : Option Files) (words : List (List ℕ)) (options : List ℕ × List ℕ) (status : Status) (replies : Replies) (old new : Option (List ℕ)) → options_of words ≡ Ok options
-    → IfSome files (λ told. AnswersGive (Ok replies) (job_of_files told options)) → EndsPuts status replies old new → IfSome files (λ told. Puts status (job_of words told) old new)
-puts_told None words options status replies old new is gives ends = tt
-puts_told (Some told) words options status replies old new is gives ends =
-    puts_of status replies (job_of words told) old new (subst (λ said. AnswersGive (Ok replies) (with_usage said >>~ job_of_files told)) (sym is) gives) ends
+pub puts_told : {F : Type 0} (files : Option F) (status : Status) (replies : Replies) (outcome : F → Result Work Status) (old new : Option (List ℕ))
+    → IfSome files (λ told. RepliesGive (Ok replies) (outcome told)) → EndsPuts status replies old new → IfSome files (λ told. Puts status (outcome told) old new)
+puts_told None status replies outcome old new gives ends = tt
+puts_told (Some told) status replies outcome old new gives ends = puts_of status replies (outcome told) old new gives ends
+
+-- a run that didn't
+ended : (status : Status) (outcome : Result Work Status) (held : Option (List ℕ)) → IsBeforePuts status → RepliesGive (Err status) outcome → Puts status outcome held held
+ended Done outcome held before gives = absurd before
+ended SomeRefused outcome held before gives = absurd before
+ended WriteFault outcome held before gives = absurd before
+ended (ReadFault file) outcome held before gives = refl
+ended NoMemory outcome held before gives = refl
+ended (Usage word) outcome held before gives = (gives, refl)
+ended (variant.TableFault file row column code cell) outcome held before gives = (gives, refl)
+ended (OwnerFault e) outcome held before gives = (gives, refl)
+ended (Missing file) outcome held before gives = (gives, refl)
+ended (Limit quantity number) outcome held before gives = (gives, refl)
+ended (NotBuilt what) outcome held before gives = (gives, refl)
+
+pub ended_told : {F : Type 0} (files : Option F) (status : Status) (outcome : F → Result Work Status) (held : Option (List ℕ))
+    → IsBeforePuts status → IfSome files (λ told. RepliesGive (Err status) (outcome told)) → IfSome files (λ told. Puts status (outcome told) held held)
+ended_told None status outcome held before gives = tt
+ended_told (Some told) status outcome held before gives = ended status (outcome told) held before gives
+
+pub ended_quiet : (status : Status) (held : Option (List ℕ)) → IsBeforePuts status → PutsNothing status held held
+ended_quiet Done held before = absurd before
+ended_quiet SomeRefused held before = absurd before
+ended_quiet WriteFault held before = absurd before
+ended_quiet status held before = refl
 
 -- such a run has no other status
 pub ends_store : {F : Type 0} (status : Status) (replies : Replies) (old new : Option (List ℕ)) (files : Option F) (faults faults_now misses misses_now : ℕ) → EndsPuts status replies old new
@@ -241,10 +307,12 @@ ends_store SomeRefused replies old new files faults faults_now misses misses_now
 ends_store WriteFault replies old new files faults faults_now misses misses_now ends = tt
 ends_store (Usage word) replies old new files faults faults_now misses misses_now ends = absurd ends
 ends_store (variant.TableFault file row column code cell) replies old new files faults faults_now misses misses_now ends = absurd ends
+ends_store (OwnerFault e) replies old new files faults faults_now misses misses_now ends = absurd ends
 ends_store (ReadFault file) replies old new files faults faults_now misses misses_now ends = absurd ends
 ends_store (Missing file) replies old new files faults faults_now misses misses_now ends = absurd ends
 ends_store NoMemory replies old new files faults faults_now misses misses_now ends = absurd ends
 ends_store (Limit quantity number) replies old new files faults faults_now misses misses_now ends = absurd ends
+ends_store (NotBuilt what) replies old new files faults faults_now misses misses_now ends = absurd ends
 
 pub ends_quiet : (status : Status) (replies : Replies) (old new : Option (List ℕ)) → EndsPuts status replies old new → PutsNothing status old new
 ends_quiet Done replies old new ends = tt
@@ -252,18 +320,19 @@ ends_quiet SomeRefused replies old new ends = tt
 ends_quiet WriteFault replies old new ends = tt
 ends_quiet (Usage word) replies old new ends = absurd ends
 ends_quiet (variant.TableFault file row column code cell) replies old new ends = absurd ends
+ends_quiet (OwnerFault e) replies old new ends = absurd ends
 ends_quiet (ReadFault file) replies old new ends = absurd ends
 ends_quiet (Missing file) replies old new ends = absurd ends
 ends_quiet NoMemory replies old new ends = absurd ends
 ends_quiet (Limit quantity number) replies old new ends = absurd ends
+ends_quiet (NotBuilt what) replies old new ends = absurd ends
 
-pub ends_place : (status : Status) (replies : Replies) (old new : Option (List ℕ)) (first last : ℕ) → EndsPuts status replies old new → FailsAt first last status
-ends_place Done replies old new first last ends = tt
-ends_place SomeRefused replies old new first last ends = tt
-ends_place WriteFault replies old new first last ends = tt
-ends_place (Usage word) replies old new first last ends = absurd ends
-ends_place (variant.TableFault file row column code cell) replies old new first last ends = absurd ends
-ends_place (ReadFault file) replies old new first last ends = absurd ends
-ends_place (Missing file) replies old new first last ends = absurd ends
-ends_place NoMemory replies old new first last ends = absurd ends
-ends_place (Limit quantity number) replies old new first last ends = absurd ends
+pub ends_place : (status : Status) (replies : Replies) (old new : Option (List ℕ)) → EndsPuts status replies old new → FailsAtFile status
+ends_place (ReadFault file) replies old new ends = absurd ends
+ends_place status replies old new ends = tt
+
+pub ends_words : (status : Status) (replies : Replies) (old new : Option (List ℕ)) (words : Result Options Status) → IsOk words → EndsPuts status replies old new → WordsGive status words
+ends_words (Usage word) replies old new words ok ends = absurd ends
+ends_words (NotBuilt what) replies old new words ok ends = absurd ends
+ends_words NoMemory replies old new words ok ends = tt
+ends_words status replies old new words ok ends = ok

@@ -1,4 +1,4 @@
--- The status of a fault in the manifest or a table.
+-- The status of a fault in the manifest, a table or the owner file.
 use Rattle.std.specs.Prelude.{ℕ, Result, Ok, Err}
 use Rattle.value_text.specs.declared.cells.CellFault.{CellFault}
 use Rattle.value_text.specs.declared.cells.CellFault.TheVariants as cell
@@ -7,8 +7,10 @@ use Rattle.graph_tables.specs.declared.faults.Quantity.TheVariants as quantity
 use Rattle.graph_tables.specs.declared.faults.TableKind.{TableKind}
 use Rattle.graph_tables.specs.declared.faults.TableKind.TheVariants as kind
 use Rattle.graph_tables.specs.declared.faults.TableFault as fault
+use Rattle.partition.specs.declared.fault.PartFault.{PartFault}
+use Rattle.partition.specs.declared.fault.PartFault.TheVariants as part
 use Rattle.adfs_top.specs.declared.status.Status.{Status}
-use Rattle.adfs_top.specs.declared.status.Status.TheVariants.{TableFault, ReadFault, Missing, NoMemory, Limit}
+use Rattle.adfs_top.specs.declared.status.Status.TheVariants.{TableFault, OwnerFault, ReadFault, Missing, NoMemory, Limit}
 
 -- the number at which a quantity is limited
 abbrev pub limit_of : Quantity → ℕ
@@ -52,3 +54,13 @@ status_of_fault e = status_of_kind e e.kind
 abbrev pub with_status : {A : Type 0} → Result A fault.TableFault → Result A Status
 with_status (Ok x) = Ok x
 with_status (Err e) = Err (status_of_fault e)
+
+-- want of memory is no fault of the file
+abbrev pub status_of_owners : PartFault → Status
+status_of_owners part.NoMemory = NoMemory
+status_of_owners e = OwnerFault e
+
+-- an owner, or the status of its file's fault
+abbrev pub with_owner_status : {A : Type 0} → Result A PartFault → Result A Status
+with_owner_status (Ok x) = Ok x
+with_owner_status (Err e) = Err (status_of_owners e)

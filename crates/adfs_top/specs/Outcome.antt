@@ -1,29 +1,39 @@
--- What a run comes to, as a function of its words and files: what is to be answered, or the status that it ends with.
-use Rattle.std.specs.Prelude.{ℕ, nat_lt, length, List, [], Option, Some, None, Result, Ok, Err, if◌then◌else◌}
+-- What a run comes to, as a function of its words and files: what is to be put, or the status that it ends with.
+use Rattle.std.specs.Prelude.{ℕ, nat_lt, length, List, [], Option, Some, None, Result, Ok, Err, slice_index_or, if◌then◌else◌}
 use Rattle.adfs_base.specs.Files.{Files, file_of}
-use Rattle.graph_tables.specs.Graph.{PropertyGraph}
+use Rattle.adfs_base.specs.declared.part_word.PartWord.{PartWord}
+use Rattle.adfs_base.specs.declared.part_word.PartWord.TheVariants as part
+use Rattle.cli_words.specs.declared.command.Command.{Command}
+use Rattle.cli_words.specs.declared.command.Command.TheVariants.{Run}
+use Rattle.cli_words.specs.declared.options.Options.{Options}
+use Rattle.graph_tables.specs.Graph.{PropertyGraph, Vertex}
 use Rattle.graph_tables.specs.Loaded.{loaded}
 use Rattle.graph_tables.specs.Properties.{SchemaLists}
 use Rattle.graph_tables.specs.declared.faults.Quantity.TheVariants as quantity
+use Rattle.partition.specs.OwnerFile.{owners_of}
+use Rattle.partition.specs.declared.owner.Owner.{Owner}
+use Rattle.partition.specs.declared.owner.Owner.TheVariants as owner
 use Rattle.pgql_lexer.specs.Pieces.{pieces}
-use Rattle.adfs_top.specs.Faults.{limit_of, with_status}
-use Rattle.adfs_top.specs.Words.{options_of}
+use Rattle.adfs_top.specs.Faults.{limit_of, with_owner_status, with_status}
+use Rattle.adfs_top.specs.Steps.{◌>>~◌}
+use Rattle.adfs_top.specs.Words.{accepted}
 use Rattle.adfs_top.specs.declared.status.Status.{Status}
-use Rattle.adfs_top.specs.declared.status.Status.TheVariants.{Usage, Missing, Limit}
+use Rattle.adfs_top.specs.declared.status.Status.TheVariants.{Missing, Limit}
 
-infixl 10 ◌>>~◌
-abbrev pub ◌>>~◌ : {A B : Type 0} → Result A Status → (A → Result B Status) → Result B Status
-(Ok x) >>~ f = f x
-(Err status) >>~ f = Err status
+-- the bytes of the file of this number, where it is there and isn't too long
+abbrev pub file_bytes : ℕ → Option (List ℕ) → Result (List ℕ) Status
+file_bytes number None = Err (Missing number)
+file_bytes number (Some text) = if nat_lt (limit_of quantity.FileBytes) (length text) then Err (Limit quantity.FileBytes (limit_of quantity.FileBytes)) else Ok text
 
-abbrev pub with_usage : {A : Type 0} → Result A ℕ → Result A Status
-with_usage (Ok x) = Ok x
-with_usage (Err word) = Err (Usage word)
+-- the owner that a file lists, whose number is 259
+abbrev pub listed_owner : ℕ → List Vertex → Option (List ℕ) → Result Owner Status
+listed_owner machines vertices found = file_bytes 259 found >>~ λ bytes. with_owner_status (owners_of bytes vertices machines)
 
--- the bytes of the query file, whose number is 257
-abbrev pub query_bytes : Option (List ℕ) → Result (List ℕ) Status
-query_bytes None = Err (Missing 257)
-query_bytes (Some text) = if nat_lt (limit_of quantity.FileBytes) (length text) then Err (Limit quantity.FileBytes (limit_of quantity.FileBytes)) else Ok text
+-- how the vertices are dealt out to the machines
+abbrev pub owner_of : PartWord → ℕ → Files → List Vertex → Result Owner Status
+owner_of part.Modulo machines files vertices = Ok owner.Modulo
+owner_of part.Block machines files vertices = Ok owner.Block
+owner_of (part.Listed name) machines files vertices = listed_owner machines vertices (file_of name files)
 
 -- where the queries stand, if there aren't too many
 abbrev pub few_places : List (ℕ × ℕ) → Result (List (ℕ × ℕ)) Status
@@ -37,11 +47,17 @@ pub record Job : Type 0 where
   pub file : List ℕ
   pub places : List (ℕ × ℕ)
 
-abbrev pub job_of_text : PropertyGraph → SchemaLists → List (List ℕ) → List ℕ → Result Job Status
-job_of_text graph schema texts text = few_places (pieces text) >>~ λ places. Ok (record { graph = graph; schema = schema; texts = texts; file = text; places = places })
+-- what is to be put: the help text, or the answers to a job
+pub data Work : Type 0 where
+  Help : Work
+  Answers : Job → Work
 
-abbrev pub job_of_file : Files → List ℕ → PropertyGraph → SchemaLists → List (List ℕ) → Result Job Status
-job_of_file files queries graph schema texts = query_bytes (file_of queries files) >>~ job_of_text graph schema texts
+abbrev pub work_of_text : PropertyGraph → SchemaLists → List (List ℕ) → List ℕ → Result Work Status
+work_of_text graph schema texts text = few_places (pieces text) >>~ λ places. Ok (Answers (record { graph = graph; schema = schema; texts = texts; file = text; places = places }))
+
+-- the query file has the number 257
+abbrev pub work_of_file : Files → List ℕ → PropertyGraph → SchemaLists → List (List ℕ) → Result Work Status
+work_of_file files queries graph schema texts = file_bytes 257 (file_of queries files) >>~ work_of_text graph schema texts
 
 -- the graph without the texts and the properties that came with it
 abbrev pub without_texts : PropertyGraph → PropertyGraph
@@ -50,9 +66,22 @@ without_texts graph = record { vertices = graph.vertices; edges = graph.edges; t
 abbrev pub schema_of : PropertyGraph → SchemaLists
 schema_of graph = record { vertex = graph.vertex_properties; edge = graph.edge_properties }
 
--- the graph first, then the queries
-abbrev pub job_of_files : Files → List ℕ × List ℕ → Result Job Status
-job_of_files files options = with_status (loaded files options.0) >>~ λ graph. job_of_file files options.1 (without_texts graph) (schema_of graph) graph.texts
+-- The owner counts for its faults alone: what queries answer is the same for every owner.
+abbrev pub work_of_graph : Options → Files → PropertyGraph → Result Work Status
+work_of_graph options files graph =
+    owner_of options.part options.machines files graph.vertices >>~ λ owner.
+    work_of_file files (slice_index_or options.files 1 []) (without_texts graph) (schema_of graph) graph.texts
 
-abbrev pub job_of : List (List ℕ) → Files → Result Job Status
-job_of words files = with_usage (options_of words) >>~ job_of_files files
+-- the graph first, then the owner, then the queries
+abbrev pub work_of_files : Files → Options → Result Work Status
+work_of_files files options = with_status (loaded files (slice_index_or options.files 0 [])) >>~ work_of_graph options files
+
+abbrev pub work_of_command : Command → Files → Options → Result Work Status
+work_of_command Run files options = work_of_files files options
+work_of_command command files options = Ok Help
+
+abbrev pub work_of : Files → Options → Result Work Status
+work_of files options = work_of_command options.command files options
+
+abbrev pub outcome_of : List (List ℕ) → Files → Result Work Status
+outcome_of words files = accepted words >>~ work_of files

@@ -1,32 +1,33 @@
--- The words of a command line: run MANIFEST QUERIES.
-use Rattle.std.specs.Prelude.{ℕ, ◌==◌, ◌&&◌, not, Bool, List, [], ◌∷◌, Result, Ok, Err, nat_le, length, codes, slice_index, if◌then◌else◌}
-use Rattle.std.specs.List.{list_all}
+-- What the words of a command line ask for.
+use Rattle.std.specs.Prelude.{ℕ, ◌&&◌, not, Bool, true, false, List, Result, Ok, Err, codes, if◌then◌else◌}
+use Rattle.std.specs.List.{list_any}
 use Rattle.std.specs.Str.{bytes_eq}
-use denote.Ref.{Bor}
+use Rattle.cli_words.specs.Form.{options_of}
+use Rattle.cli_words.specs.Values.{cut_at}
+use Rattle.cli_words.specs.declared.command.Command.{Command}
+use Rattle.cli_words.specs.declared.command.Command.TheVariants.{Run, Help}
+use Rattle.cli_words.specs.declared.options.Options.{Options}
+use Rattle.adfs_top.specs.Steps.{◌>>~◌}
+use Rattle.adfs_top.specs.declared.status.Status.{Status}
+use Rattle.adfs_top.specs.declared.status.Status.TheVariants.{Usage, NotBuilt}
 
--- a word that isn't empty, doesn't begin with '-' and has no control byte
-abbrev pub is_file_word : List ℕ → Bool
-is_file_word word = not (length word == 0) && not (slice_index word 0 == 45) && list_all (λ b. nat_le 32 b) word
+-- an option of this name is among the words
+abbrev pub is_given : List ℕ → List (List ℕ) → Bool
+is_given name words = list_any (λ word. bytes_eq (cut_at 61 word).0 name) words
 
-abbrev pub no_more : List ℕ → List ℕ → List (List ℕ) → Result (List ℕ × List ℕ) ℕ
-no_more manifest queries [] = Ok (manifest, queries)
-no_more manifest queries (word ∷ words) = Err 3
+-- what the words ask of the command is built
+abbrev pub is_built : Command → List (List ℕ) → Bool
+is_built Run words = not (is_given (codes "--lanes") words) && not (is_given (codes "--pool") words)
+is_built Help words = true
+is_built command words = false
 
-abbrev pub then_queries : List ℕ → List (List ℕ) → Result (List ℕ × List ℕ) ℕ
-then_queries manifest [] = Err 2
-then_queries manifest (word ∷ words) = if is_file_word word then no_more manifest word words else Err 2
+abbrev pub with_usage : {A : Type 0} → Result A ℕ → Result A Status
+with_usage (Ok x) = Ok x
+with_usage (Err word) = Err (Usage word)
 
-abbrev pub then_manifest : List (List ℕ) → Result (List ℕ × List ℕ) ℕ
-then_manifest [] = Err 1
-then_manifest (word ∷ words) = if is_file_word word then then_queries word words else Err 1
+abbrev pub if_built : List (List ℕ) → Options → Result Options Status
+if_built words options = if is_built options.command words then Ok options else Err (NotBuilt 1000)
 
--- the manifest and the query file; or the place of the first word with which no accepted list goes on, or the
--- number of words where some are missing
-abbrev pub options_of : List (List ℕ) → Result (List ℕ × List ℕ) ℕ
-options_of [] = Err 0
-options_of (word ∷ words) = if bytes_eq word (codes "run") then then_manifest words else Err 0
-
--- the options, without where their words lie in memory
-abbrev pub seen : Result (Bor (List ℕ) × Bor (List ℕ)) ℕ → Result (List ℕ × List ℕ) ℕ
-seen (Ok files) = Ok (files.0.now, files.1.now)
-seen (Err word) = Err word
+-- the options that the words say, where the words are of the form and all that they ask for is built
+abbrev pub accepted : List (List ℕ) → Result Options Status
+accepted words = with_usage (options_of words) >>~ if_built words

@@ -1,10 +1,11 @@
-//! The status of a fault in the manifest or a table.
+//! The status of a fault in the manifest, a table or the owner file.
 ghost use Rattle.std.specs.Prelude.{◌≡◌};
 ghost use Rattle.adfs_top.specs.Faults as faults;
 ghost use Rattle.adfs_top.specs.Faults.{refused};
 
 use crate::Status;
 use graph_tables::{Quantity, TableFault, TableKind};
+use partition::PartFault;
 use value_text::CellFault;
 
 /// The number at which a quantity is limited.
@@ -73,5 +74,15 @@ pub fn status_of(fault: TableFault) -> Status
         TableKind::Missing => Status::Missing { file: fault.file },
         TableKind::ReadFault => Status::ReadFault { file: fault.file },
         TableKind::NoMemory => Status::NoMemory,
+    }
+}
+
+/// The status of a fault of the owner file.
+pub fn status_of_owners(fault: PartFault) -> Status
+    ensures { result ≡ faults.status_of_owners fault }
+{
+    match fault {
+        PartFault::NoMemory => Status::NoMemory,
+        _ => Status::OwnerFault(fault),
     }
 }

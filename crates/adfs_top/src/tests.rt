@@ -4,3 +4,4 @@ mod refused_at_once;
 mod status_line;
 mod support;
 mod tables;
+mod words;

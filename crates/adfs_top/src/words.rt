@@ -1,34 +1,56 @@
-ghost use Rattle.std.specs.Prelude.{◌≡◌, nat_le, map};
-ghost use Rattle.std.specs.List.{list_all};
+//! The options that the words say, where all that they ask for is built.
+ghost use Rattle.std.specs.Prelude.{◌≡◌, IfErr, IfOk, map};
+ghost use Rattle.std.specs.List.{list_any};
+ghost use Rattle.std.specs.Str.{bytes_eq};
 ghost use Rattle.std.specs.String.{string_bytes};
-ghost use Rattle.adfs_top.specs.Words.{is_file_word, options_of, seen};
+ghost use Rattle.adfs_top.specs.Causes.{IsOfWords, PartGives};
+ghost use Rattle.adfs_top.specs.Words.{accepted, is_built};
+ghost use Rattle.cli_words.specs.Files.{HasItsFiles};
+ghost use Rattle.cli_words.specs.Values.{cut_at};
 
-fn has_no_control_byte(word: &[u8]) -> bool
-    ensures { result ≡ list_all (λ b. nat_le 32 b) word.now }
+use crate::Status;
+use cli_words::{Command, Options, UsageFault, read_words};
+use std::alloc::Global;
+
+// The name of the option that a word gives, or the word itself.
+fn option_name(word: &str) -> &str
+    ensures { result.now ≡ (cut_at 61 word.now).0 }
 {
-    word.iter().all(|b| 32 <= *b)
+    match word.split_once('=') {
+        Some((name, _)) => name,
+        None => word,
+    }
 }
 
-// Whether a word may name a file.
-fn is_file_word(word: &[u8]) -> bool
-    ensures { result ≡ is_file_word word.now }
+// Whether an option of this name is among the words.
+fn is_given(name: &str, words: &[String]) -> bool
+    ensures { result ≡ list_any (λ word. bytes_eq (cut_at 61 (string_bytes word)).0 name.now) words.now }
 {
-    !word.is_empty() && word[0] != b'-' && has_no_control_byte(word)
+    words.iter().any(|word| option_name(word.as_str()) == name)
 }
 
-/// The manifest and the query file; or the place of the first word with which no accepted list goes on, or
-/// the number of words where some are missing.
-pub fn options(words: &[String]) -> Result<(&str, &str), u32>
-    ensures { seen result ≡ options_of (map string_bytes words.now) }
+// Whether all that is asked of the command is built.
+fn is_built(command: Command, words: &[String]) -> bool
+    ensures { result ≡ is_built command (map string_bytes words.now) }
 {
-    match words {
-        [] => Err(0),
-        [command, ..] if command.as_str() != "run" => Err(0),
-        [_] => Err(1),
-        [_, manifest, ..] if !is_file_word(manifest.as_bytes()) => Err(1),
-        [_, _] => Err(2),
-        [_, _, queries, ..] if !is_file_word(queries.as_bytes()) => Err(2),
-        [_, manifest, queries] => Ok((manifest.as_str(), queries.as_str())),
-        _ => Err(3),
+    match command {
+        Command::Run => !is_given("--lanes", words) && !is_given("--pool", words),
+        Command::Help => true,
+        _ => false,
+    }
+}
+
+/// What the words say. `Usage` comes exactly where they are outside the form, and `NotBuilt` exactly where they
+/// are of the form and ask for what isn't built.
+pub fn accepted(alloc: Global, words: &[String]) -> Result<Options, Status>
+    ensures gives { PartGives (λ options. options) result (accepted (map string_bytes words.now)) }
+    ensures files { IfOk result HasItsFiles }
+    ensures status { IfErr result IsOfWords }
+{
+    match read_words(alloc, words) {
+        Ok(options) if is_built(options.command, words) => Ok(options),
+        Ok(_) => Err(Status::NotBuilt { what: 1000 }),
+        Err(UsageFault::Word(word)) => Err(Status::Usage { word }),
+        Err(UsageFault::NoMemory) => Err(Status::NoMemory),
     }
 }

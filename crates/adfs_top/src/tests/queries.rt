@@ -1,16 +1,13 @@
 // Whole query files, over people who know one another and over a town.
-use super::support::{PEOPLE, comes_to, failing_sink, people, sink, tables, town};
+use super::support::{
+    PAIRS, PAIRS_REPLY, PEOPLE, comes_to, failing_sink, people, sink, tables, town,
+};
 use crate::Status;
 use adfs_base::{MemSink, NoMemory};
 use std::alloc::Global;
 use std::test::Fail;
 
 const RUN: &str = "run graph.txt q.txt";
-
-const PAIRS: &str = "SELECT a.name, b.name MATCH (a)-[e:knows]->(b);";
-
-const PAIRS_REPLY: &str =
-    "query 1 rows 5\na.name,b.name\nAnn,Bob\nAnn,Bob\nBob,Cy\nCy,Ann\nDee,Dee\n";
 
 // Whether these queries over the people come to this.
 fn answers(alloc: Global, queries: &str, held: &str) -> Result<bool, NoMemory> {
@@ -74,6 +71,54 @@ fn order_then_limit(rt: HostRuntime) -> Result<(), Fail> {
     let queries = "SELECT a.name, b.name MATCH (a)-[e]->(b) ORDER BY a.age DESC LIMIT 2;";
     let held = "query 1 rows 2\na.name,b.name\nCy,Ann\nDee,Dee\n";
     assert!(rt; answers(rt.alloc(), queries, held)?);
+    Ok(())
+}
+
+#[test]
+fn limits_cut_last(rt: HostRuntime) -> Result<(), Fail> {
+    let alloc = rt.alloc();
+    for (queries, held) in [
+        (
+            "SELECT a.name MATCH (a) ORDER BY a.age LIMIT 0;",
+            "query 1 rows 0\na.name\n",
+        ),
+        (
+            "SELECT a.name MATCH (a) ORDER BY a.age LIMIT 1;",
+            "query 1 rows 1\na.name\nBob\n",
+        ),
+        (
+            "SELECT a.name MATCH (a) LIMIT 9;",
+            "query 1 rows 4\na.name\nAnn\nBob\nCy\nDee\n",
+        ),
+        (
+            "SELECT DISTINCT label(a) MATCH (a) LIMIT 9;",
+            "query 1 rows 1\nlabel(a)\nperson\n",
+        ),
+    ] {
+        assert!(rt; answers(alloc, queries, held)?, "at {queries:?}");
+    }
+    Ok(())
+}
+
+#[test]
+fn nulls_are_the_greatest(rt: HostRuntime) -> Result<(), Fail> {
+    let alloc = rt.alloc();
+    for (queries, held) in [
+        (
+            "SELECT a.age AS age MATCH (a) ORDER BY age;",
+            "query 1 rows 4\nage\n25\n30\n41\n\n",
+        ),
+        (
+            "SELECT a.age AS age MATCH (a) ORDER BY age DESC;",
+            "query 1 rows 4\nage\n\n41\n30\n25\n",
+        ),
+        (
+            "SELECT a.age, a.name MATCH (a) ORDER BY a.age IS NULL DESC, a.name DESC;",
+            "query 1 rows 4\na.age,a.name\n,Cy\n41,Dee\n25,Bob\n30,Ann\n",
+        ),
+    ] {
+        assert!(rt; answers(alloc, queries, held)?, "at {queries:?}");
+    }
     Ok(())
 }
 

@@ -1,6 +1,7 @@
 // Each status's line for a user.
 use crate::Status;
 use graph_tables::Quantity;
+use partition::PartFault;
 use std::test::Fail;
 
 #[test]
@@ -23,6 +24,26 @@ fn each_status_has_its_line(rt: HostRuntime) -> Result<(), Fail> {
             },
             3,
             "adfs: file 2 record 7 column 3 refused 34 cell 0\n",
+        ),
+        (
+            Status::OwnerFault(PartFault::OwnerOutOfRange(4)),
+            3,
+            "adfs: owners refused 50 line 4 key 0\n",
+        ),
+        (
+            Status::OwnerFault(PartFault::OwnerMissing(-4)),
+            3,
+            "adfs: owners refused 51 line 0 key -4\n",
+        ),
+        (
+            Status::OwnerFault(PartFault::BadOwnerLine(5)),
+            3,
+            "adfs: owners refused 53 line 5 key 0\n",
+        ),
+        (
+            Status::NotBuilt { what: 1000 },
+            10,
+            "adfs: not built 1000\n",
         ),
         (
             Status::Limit {

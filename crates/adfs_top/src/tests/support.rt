@@ -7,9 +7,18 @@ pub const MANIFEST: &str = "adfs 1\nvertices person people.csv\nedges knows know
 
 pub const PEOPLE: &str = "id:int\n1\n2\n3\n4\n";
 
+/// The same people with names and ages.
+pub const NAMED: &str = "id:int,name:text,age:int\n1,Ann,30\n2,Bob,25\n3,Cy,\n4,Dee,41\n";
+
 pub const KNOWS: &str = "id:int,source:int,target:int\n10,1,2\n11,1,2\n12,2,3\n13,3,1\n14,4,4\n";
 
 pub const QUERY: &str = "SELECT id(a), id(b) MATCH (a)-[e]->(b);\n";
+
+/// Who knows whom, by name.
+pub const PAIRS: &str = "SELECT a.name, b.name MATCH (a)-[e:knows]->(b);";
+
+pub const PAIRS_REPLY: &str =
+    "query 1 rows 5\na.name,b.name\nAnn,Bob\nAnn,Bob\nBob,Cy\nCy,Ann\nDee,Dee\n";
 
 pub const REPLY: &str = "query 1 rows 5\nid(a),id(b)\n1,2\n1,2\n2,3\n3,1\n4,4\n";
 
@@ -56,10 +65,7 @@ pub fn people<'a>(
 ) -> Result<MemStore, NoMemory> {
     let files = [
         ("graph.txt", MANIFEST),
-        (
-            "people.csv",
-            "id:int,name:text,age:int\n1,Ann,30\n2,Bob,25\n3,Cy,\n4,Dee,41\n",
-        ),
+        ("people.csv", NAMED),
         ("knows.csv", KNOWS),
         ("q.txt", queries),
     ];

@@ -1,6 +1,6 @@
 use Rattle.std.proofs.Common.{◌≡◌, ◌∷◌, refl, rules}
 use Rattle.adfs_top.proofs.Steps.{front_of_first, front_of_others}
-use Rattle.adfs_top.proofs.top.+put_all.Goals as goal
+use Rattle.adfs_top.proofs.put.+put_all.Goals as goal
 
 pub returns-in-All-clause-front : goal.returns-in-All-clause-front
 returns-in-All-clause-front g t c = λ fails.

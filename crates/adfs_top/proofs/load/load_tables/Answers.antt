@@ -1,6 +1,5 @@
-use Rattle.std.proofs.Common.{◌≡◌, ◌≤◌}
 use Rattle.adfs_top.proofs.Steps.{place_of_fault}
-use Rattle.adfs_top.proofs.top.load_tables.Goals as goal
+use Rattle.adfs_top.proofs.load.load_tables.Goals as goal
 
 pub returns-in-Err-clause-place : goal.returns-in-Err-clause-place
 returns-in-Err-clause-place g c = rw c.status_of.ensures (place_of_fault 0 256 c.in-Err.fault c.in-Err.ensures.place)

@@ -1,5 +1,5 @@
 use Rattle.adfs_top.proofs.Steps.{answered}
-use Rattle.adfs_top.proofs.top.answer_text.Goals as goal
+use Rattle.adfs_top.proofs.answer.answer_text.Goals as goal
 
 pub returns-in-Ok-clause-gives : goal.returns-in-Ok-clause-gives
 returns-in-Ok-clause-gives c =
