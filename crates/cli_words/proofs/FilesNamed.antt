@@ -1,17 +1,14 @@
 -- The words of a command line name as many files as its command has.
-use Rattle.std.proofs.Common.{◌≡◌, ◌∙◌, ◌+◌, ◌++◌, arith, cond, refl, sym, subst, ap, ℕ, Bool, true, false, List, [], ◌∷◌, length, length-append, Option, Some, None, Result, Ok, Err}
-use Rattle.std.specs.Prelude.{IfOk, count_by, slice_get, slice_index, ok_or, option_and_then, option_map, ◌==◌, ◌^◌, ◌-◌, ◌*◌}
+use Rattle.std.proofs.Common.{◌≡◌, ◌∙◌, ◌+◌, ◌++◌, arith, cond, refl, sym, subst, ap, ℕ, Bool, true, false, List, [], ◌∷◌, length, length-append, Option, Some, None, Ok}
+use Rattle.std.specs.Prelude.{count_by, slice_get, slice_index, ok_or, option_and_then, option_map, ◌==◌, ◌^◌, ◌-◌, ◌*◌}
 use Rattle.std.specs.List.{remove}
 use Rattle.std.proofs.lemmas.List.Sums.{sum_by-cons}
-use Rattle.cli_words.specs.Fault.{GivesOptions}
 use Rattle.cli_words.specs.Files.{HasItsFiles, files_number, names_file}
 use Rattle.cli_words.specs.Form.{finished, finished_by, place_of, read_at, read_by, read_cut, read_file, read_file_as, read_named, read_on, read_option, read_value, read_word}
 use Rattle.cli_words.specs.Said.{Said, at_first}
 use Rattle.cli_words.specs.Values.{cut_at, is_file_text, number_in, part_of, with_file, with_file_word, with_setting}
 use Rattle.cli_words.specs.declared.command.Command.{Command}
 use Rattle.cli_words.specs.declared.options.Options.{Options}
-use Rattle.cli_words.specs.declared.read.UsageFault.{UsageFault}
-use Rattle.cli_words.specs.declared.read.UsageFault.TheVariants.{Word, NoMemory}
 use Rattle.cli_words.specs.declared.file_word.FileWord.{FileWord}
 use Rattle.cli_words.specs.declared.file_word.FileWord.TheVariants as file
 use Rattle.cli_words.specs.declared.setting.Setting.{Setting}
@@ -178,9 +175,6 @@ read_on_files (word ∷ words) place said options whole e = by (λ next. read_on
 whole_at_first : (command : Command) → IsWhole (at_first command)
 whole_at_first command = let none : length (at_first command).options.files ≡ 0 = refl in omega arith
 
--- what the words after a command's word give has the files of the command
-pub given_files : (result : Result Options UsageFault) (words : List (List ℕ)) (command : Command) (first : Said) → first ≡ at_first command
-    → GivesOptions result (read_on words 1 first) → IfOk result HasItsFiles
-given_files (Ok options) words command first at gives = read_on_files words 1 first options (subst IsWhole (sym at) (whole_at_first command)) gives
-given_files (Err (Word place)) words command first at gives = tt
-given_files (Err NoMemory) words command first at gives = tt
+-- what the words after a command's word say has the files of the command
+pub said_files : (words : List (List ℕ)) (command : Command) (options : Options) → read_on words 1 (at_first command) ≡ Ok options → HasItsFiles options
+said_files words command options e = read_on_files words 1 (at_first command) options (whole_at_first command) e

@@ -1,4 +1,16 @@
+pub mod Apart
+pub mod BareReading
 pub mod Completions
 pub mod FilesNamed
+pub mod Found
+pub mod LineRules
+pub mod LongWords
 pub mod Numbers
+pub mod PlainValues
 pub mod Refusals
+pub mod RowsFound
+pub mod SameWalk
+pub mod Takings
+pub mod TakingSteps
+pub mod Turns
+pub mod WordsInTurn

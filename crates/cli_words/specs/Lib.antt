@@ -1,10 +1,12 @@
+pub mod Bare
 pub mod Defaults
 pub mod Fault
 pub mod Files
 pub mod Form
 pub mod Help
 pub mod Laws
+pub mod Line
 pub mod Rows
 pub mod Said
-pub mod Unread
+pub mod Taken
 pub mod Values

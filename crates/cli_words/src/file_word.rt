@@ -1,11 +1,13 @@
-ghost use Rattle.std.specs.Prelude.{◌≡◌};
+ghost use Rattle.std.specs.Prelude.{◌≡◌, IfOk, IsSome, Some, option_map};
+ghost use Rattle.clap.specs.Words.{first_of, found_of, rows_of};
+ghost use Rattle.cli_words.specs.Bare.{blank};
+ghost use Rattle.cli_words.specs.Rows.{file_word_name};
 ghost use Rattle.cli_words.specs.Values.{with_file_word};
-ghost use Rattle.cli_words.specs.Unread.{Gives};
 
-use crate::number::{edges_in, is_file_text, number_in};
+use crate::number::{is_edges, is_file_text, is_in, number_in, number_said};
 use crate::options::Options;
-use crate::unread::Unread;
-use adfs_base::Name;
+use adfs_base::{Name, NoMemory};
+use clap::ArgMatches;
 use std::alloc::Global;
 
 // A word that stands in a command's row by its place.
@@ -26,25 +28,58 @@ pub enum FileWord {
 }
 
 impl FileWord {
-    // The options with what the word says in this place.
+    // How the help text calls it.
+    pub(crate) fn name(self) -> &'static str
+        ensures { result.now ≡ file_word_name self }
+    {
+        match self {
+            FileWord::Manifest => "MANIFEST",
+            FileWord::Queries => "QUERIES",
+            FileWord::Trace => "FILE",
+            FileWord::Seed => "SEED",
+            FileWord::Vertices => "VERTICES",
+            FileWord::Edges => "EDGES",
+        }
+    }
+
+    // What `clap` found for it.
+    #[tactic(auto, using(crate::proofs::TakingSteps::got_first))]
+    pub(crate) fn found_in<'a>(self, matches: &ArgMatches<'a>) -> Option<&'a str>
+        ensures { option_map (λ s. s.now) result ≡ first_of (file_word_name self) (rows_of (found_of matches.now)) }
+    {
+        matches.get_str(self.name())
+    }
+
+    // How many vertices there are after the word, where it may stand in this place.
+    pub(crate) fn check(self, word: &str, vertices: u64) -> Option<u64>
+        ensures { result ≡ option_map (λ options. options.vertices) (with_file_word self word.now (blank vertices)) }
+    {
+        let may_stand = match self {
+            FileWord::Manifest | FileWord::Queries | FileWord::Trace => is_file_text(word),
+            FileWord::Seed => is_in(word, 0, u64::MAX),
+            FileWord::Vertices => return number_in(word, 1, 200_000),
+            FileWord::Edges => is_edges(word, vertices),
+        };
+        if may_stand { Some(vertices) } else { None }
+    }
+
+    // The options with what the word says, which may stand in this place.
     pub(crate) fn into_options(
         self,
         alloc: Global,
         word: &str,
         mut options: Options,
-    ) -> Result<Options, Unread>
-        ensures { Gives result (with_file_word self word.now options) }
+    ) -> Result<Options, NoMemory>
+        requires { IsSome (with_file_word self word.now options) }
+        ensures { IfOk result (λ new. with_file_word self word.now options ≡ Some new) }
     {
         match self {
             FileWord::Manifest | FileWord::Queries | FileWord::Trace => {
-                if !is_file_text(word) {
-                    return Err(Unread::Form);
-                }
                 options.files.push(Name::new(alloc, word)?)?;
             }
-            FileWord::Seed => options.seed = number_in(word, 0, u64::MAX)?,
-            FileWord::Vertices => options.vertices = number_in(word, 1, 200_000)?,
-            FileWord::Edges => options.edges = edges_in(word, options.vertices)?,
+            FileWord::Seed => options.seed = number_said(word),
+            FileWord::Vertices => options.vertices = number_said(word),
+            FileWord::Edges => options.edges = number_said(word),
         }
         Ok(options)
     }

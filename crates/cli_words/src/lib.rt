@@ -6,6 +6,11 @@
 //! in specs/Rows.antt (which file words and which options a command has) and in specs/Values.antt (what each
 //! option and each file word may say, with its range).
 //!
+//! The form is checked first, word by word, and then the values are taken with `clap`, which is told of the
+//! command's options and file words (`line_of`, specs/Line.antt). It takes every command line, and what it
+//! finds (`options_found`, specs/Taken.antt) is what `options_of` says: one induction over the words shows it
+//! for all commands (proofs/SameWalk.antt).
+//!
 //! `read_words` is exact: it gives the options, or the place of the refused word, as `options_of` does, and
 //! else only want of memory. `refusals_come_first` says what that place is: whatever follows the word there,
 //! it is no command line, and the words before it are the front of one. `usage_text` is the text that those
@@ -16,13 +21,14 @@ mod command;
 mod cut;
 mod file_word;
 mod laws;
+mod line;
 mod number;
 mod options;
 mod part;
 mod read;
 mod reading;
 mod setting;
-mod unread;
+mod taking;
 mod usage;
 
 pub use command::Command;

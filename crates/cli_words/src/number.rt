@@ -1,10 +1,7 @@
-ghost use Rattle.std.specs.Prelude.{◌≡◌, ◌*◌, ◌≤◌, ◌<◌, ◌^◌, IfOk, nat_le};
+ghost use Rattle.std.specs.Prelude.{◌≡◌, ◌*◌, IsSome, Some, is_some, nat_le};
 ghost use Rattle.std.specs.List.{list_all};
 ghost use Rattle.std.specs.Char.{is_ascii_digit};
 ghost use Rattle.cli_words.specs.Values.{is_file_text, is_number, number_of, number_in};
-ghost use Rattle.cli_words.specs.Unread.{Gives, Reads};
-
-use crate::unread::Unread;
 
 fn has_no_control_byte(text: &[u8]) -> bool
     ensures { result ≡ list_all (λ b. nat_le 32 b) text.now }
@@ -32,43 +29,47 @@ fn is_number(word: &str) -> bool
     !word.is_empty() && word.len() <= 20 && all_digits(word.as_bytes())
 }
 
-// The number that the word says.
-fn number(word: &str) -> Result<u64, Unread>
-    ensures { Reads result (number_of word.now) }
+// The number that the word says, if it says one.
+fn number(word: &str) -> Option<u64>
+    ensures { result ≡ number_of word.now }
 {
     if !is_number(word) {
-        return Err(Unread::Form);
+        return None;
     }
     match word.parse::<u64>() {
-        Ok(number) => Ok(number),
-        Err(_) => Err(Unread::Form),
+        Ok(number) => Some(number),
+        Err(_) => None,
     }
 }
 
-// The number that the word says, from `least` to `greatest`.
-pub(crate) fn number_in(word: &str, least: u64, greatest: u64) -> Result<u64, Unread>
-    ensures reads { Reads result (number_in least greatest word.now) }
-    ensures bound { IfOk result (λ n. n ≤ greatest) }
+// The number that the word says, if it is one from `least` to `greatest`.
+pub(crate) fn number_in(word: &str, least: u64, greatest: u64) -> Option<u64>
+    ensures { result ≡ number_in least greatest word.now }
 {
-    let number = number(word)?;
-    if least <= number && number <= greatest {
-        Ok(number)
-    } else {
-        Err(Unread::Form)
+    match number(word) {
+        Some(number) if least <= number && number <= greatest => Some(number),
+        _ => None,
     }
 }
 
-// The same of a small number.
-pub(crate) fn small_in(word: &str, least: u32, greatest: u32) -> Result<u32, Unread>
-    ensures { Reads result (number_in least greatest word.now) }
+// Whether the word says a number from `least` to `greatest`.
+pub(crate) fn is_in(word: &str, least: u64, greatest: u64) -> bool
+    ensures { result ≡ is_some (number_in least greatest word.now) }
 {
-    let number = number_in(word, u64::from(least), u64::from(greatest))?;
-    Ok(number as u32)
+    number_in(word, least, greatest).is_some()
 }
 
-// The number that the word says, at most 8 for each vertex.
-pub(crate) fn edges_in(word: &str, vertices: u64) -> Result<u64, Unread>
-    ensures { Reads result (number_in 0 (8 * vertices) word.now) }
+// Whether the word says a number, at most 8 for each vertex.
+pub(crate) fn is_edges(word: &str, vertices: u64) -> bool
+    ensures { result ≡ is_some (number_in 0 (8 * vertices) word.now) }
 {
-    number_in(word, 0, vertices.saturating_mul(8))
+    is_in(word, 0, vertices.saturating_mul(8))
+}
+
+// The number of a word that says one.
+pub(crate) fn number_said(word: &str) -> u64
+    requires { IsSome (number_of word.now) }
+    ensures { number_of word.now ≡ Some result }
+{
+    number(word).unwrap()
 }

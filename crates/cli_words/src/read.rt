@@ -1,5 +1,6 @@
 ghost use Rattle.std.specs.Prelude.{◌≡◌, ◌≤◌, IfOk, map};
 ghost use Rattle.std.specs.String.{string_bytes};
+ghost use Rattle.cli_words.specs.Bare.{refusal};
 ghost use Rattle.cli_words.specs.Form.{options_of, read_on};
 ghost use Rattle.cli_words.specs.Said.{to_come};
 ghost use Rattle.cli_words.specs.Fault.{GivesOptions};
@@ -8,7 +9,7 @@ ghost use Rattle.cli_words.specs.Files.{HasItsFiles};
 use crate::command::command_named;
 use crate::options::Options;
 use crate::reading::Reading;
-use crate::unread::Unread;
+use crate::taking::take_words;
 use std::alloc::Global;
 
 /// Why words are no command line.
@@ -44,26 +45,34 @@ pub fn read_words(alloc: Global, words: &[String]) -> Result<Options, UsageFault
     let Ok(reading) = Reading::at_first(alloc, command) else {
         return Err(UsageFault::NoMemory);
     };
-    read_on(alloc, rest, reading)
+    if let Some(place) = refused_place(rest, reading) {
+        return Err(UsageFault::Word(place));
+    }
+    match take_words(alloc, command, words) {
+        Ok(options) => Ok(options),
+        Err(_) => Err(UsageFault::NoMemory),
+    }
 }
 
-// What the words say after the command's word, where that said this.
-fn read_on(alloc: Global, words: &[String], first: Reading) -> Result<Options, UsageFault>
+// The place of the first word after the command's word with which no command line goes on, or of the end where
+// some are missing.
+#[tactic(auto, using(crate::proofs::WordsInTurn::word_goes_on))]
+fn refused_place(words: &[String], first: Reading) -> Option<u32>
     requires { to_come first ≤ 20 }
-    ensures { GivesOptions result (read_on (map string_bytes words.now) 1 first) }
+    ensures { result ≡ refusal (read_on (map string_bytes words.now) 1 first) }
 {
     let mut reading = first;
     let mut place = 1;
     for word in words {
-        reading = match reading.read_word(alloc, word.as_str()) {
-            Ok(next) => next,
-            Err(Unread::Form) => return Err(UsageFault::Word(place)),
-            Err(Unread::NoMemory) => return Err(UsageFault::NoMemory),
+        let Some(next) = reading.read_word(word.as_str()) else {
+            return Some(place);
         };
+        reading = next;
         place += 1;
     }
-    match reading.finish() {
-        Some(options) => Ok(options),
-        None => Err(UsageFault::Word(place)),
+    if reading.is_finished() {
+        None
+    } else {
+        Some(place)
     }
 }
