@@ -108,7 +108,7 @@ impl Part {
         requires { vertex < length self.now.owners }
         ensures { result ≡ slice_index self.now.owners vertex }
     {
-        u32::from(self.site.owners[vertex as usize])
+        self.site.owners[vertex as usize]
     }
 
     /// The value that the vertex at a place has of a property; null where its table has no such property.
@@ -139,7 +139,7 @@ impl Part {
             edge: link.edge,
             key: self.edges.key(link.row),
             other: link.other,
-            machine: u32::from(self.site.owners[link.other as usize]),
+            machine: self.site.owners[link.other as usize],
             label: link.label,
         }
     }

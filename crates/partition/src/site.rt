@@ -15,7 +15,7 @@ use std::alloc::Global;
 pub(crate) struct Site {
     pub(crate) machine: u32,
     /// The machine of each vertex of the graph.
-    pub(crate) owners: Vec<u8>,
+    pub(crate) owners: Vec<u32>,
     /// The numbers of the machine's vertices, which rise.
     pub(crate) numbers: Vec<u32>,
     /// For each vertex of the graph its place among the numbers, or `NOWHERE`.
@@ -31,27 +31,26 @@ pub(crate) fn owners(
     owner: &Owner,
     vertices: u32,
     machines: u32,
-) -> Result<Vec<u8>, NoMemory>
+) -> Result<Vec<u32>, NoMemory>
     requires some { 0 < machines }
-    requires few { machines ≤ 8 }
     requires owner { IsOwner owner.now vertices machines }
     ensures { IfOk result (λ owners. owners.items ≡ owners_in owner.now vertices machines) }
 {
     let mut owners = Vec::with_capacity(alloc, vertices as usize)?;
     for vertex in 0..vertices {
-        owners.push(owner.machine_of(vertices, machines, vertex) as u8)?;
+        owners.push(owner.machine_of(vertices, machines, vertex))?;
     }
     Ok(owners)
 }
 
 // The numbers of a machine's vertices.
-fn numbers(alloc: Global, owners: &[u8], machine: u32) -> Result<Vec<u32>, NoMemory>
+fn numbers(alloc: Global, owners: &[u32], machine: u32) -> Result<Vec<u32>, NoMemory>
     requires { length owners.now < 2 ^ 32 }
     ensures { IfOk result (λ numbers. numbers.items ≡ filter (λ v. slice_index owners.now v == machine) (range_with_len 0 (length owners.now))) }
 {
     let mut numbers = Vec::new(alloc);
     for vertex in 0..owners.len() {
-        if u32::from(owners[vertex]) == machine {
+        if owners[vertex] == machine {
             numbers.push(vertex as u32)?;
         }
     }
@@ -59,14 +58,14 @@ fn numbers(alloc: Global, owners: &[u8], machine: u32) -> Result<Vec<u32>, NoMem
 }
 
 // The place of each vertex.
-fn places(alloc: Global, owners: &[u8], machine: u32) -> Result<Vec<u32>, NoMemory>
+fn places(alloc: Global, owners: &[u32], machine: u32) -> Result<Vec<u32>, NoMemory>
     requires { length owners.now < 2 ^ 32 }
     ensures { IfOk result (λ places. places.items ≡ places_from machine 0 owners.now) }
 {
     let mut places = Vec::with_capacity(alloc, owners.len())?;
     let mut next: u32 = 0;
     for owner in owners {
-        if u32::from(*owner) == machine {
+        if *owner == machine {
             places.push(next)?;
             next += 1;
         } else {
@@ -78,7 +77,7 @@ fn places(alloc: Global, owners: &[u8], machine: u32) -> Result<Vec<u32>, NoMemo
 
 impl Site {
     /// The vertices of a machine, where this one has each vertex.
-    pub(crate) fn new(alloc: Global, owners: &[u8], machine: u32) -> Result<Site, NoMemory>
+    pub(crate) fn new(alloc: Global, owners: &[u32], machine: u32) -> Result<Site, NoMemory>
         requires { length owners.now < 2 ^ 32 }
         ensures site { IfOk result (λ site. IsSite (length owners.now) site) }
         ensures owners { IfOk result (λ site. site.owners.items ≡ owners.now) }
@@ -109,7 +108,7 @@ impl Site {
         requires { vertex < length self.now.owners.items }
         ensures { result ≡ (slice_index self.now.owners.items vertex == self.now.machine) }
     {
-        u32::from(self.owners[vertex as usize]) == self.machine
+        self.owners[vertex as usize] == self.machine
     }
 
     /// Whether the machine has an end of an edge.

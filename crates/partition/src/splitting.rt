@@ -45,7 +45,7 @@ fn adjacency(alloc: Global, graph: &Graph, site: &Site, out: bool) -> Result<Adj
 fn part(
     alloc: Global,
     graph: &Graph,
-    owners: &[u8],
+    owners: &[u32],
     machines: u32,
     machine: u32,
 ) -> Result<Part, NoMemory>
@@ -66,7 +66,6 @@ fn part(
 // The parts of all machines.
 fn parts(alloc: Global, graph: &Graph, owner: &Owner, machines: u32) -> Result<Vec<Part>, NoMemory>
     requires some { 0 < machines }
-    requires few { machines ≤ 8 }
     requires owner { IsOwner owner.now (length graph.now.vertices) machines }
     ensures { IfOk result (λ parts. PartsMeet graph.now owner.now machines parts.items) }
 {
@@ -78,7 +77,7 @@ fn parts(alloc: Global, graph: &Graph, owner: &Owner, machines: u32) -> Result<V
     Ok(parts)
 }
 
-/// Splits a graph into the parts of machines, of which there are at most eight. An owner that lists the
+/// Splits a graph into the parts of machines, of which there is one at least. An owner that lists the
 /// machines has one below `machines` for each vertex.
 ///
 /// The parts stand in the order of their machines. Together they are the graph: each vertex stands in the
@@ -90,7 +89,6 @@ pub fn split(
     machines: u32,
 ) -> Result<Vec<Part>, NoMemory>
     requires some { 0 < machines }
-    requires few { machines ≤ 8 }
     requires owner { IsOwner owner.now (length graph.vertices) machines }
     ensures parts { IfOk result (λ parts. PartsMeet graph owner.now machines parts.items) }
 {

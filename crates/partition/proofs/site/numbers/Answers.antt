@@ -2,16 +2,16 @@ use Rattle.std.proofs.Common.{◌≡◌, ◌==◌, arith, true, false, slice_ind
 use Rattle.std.proofs.lemmas.Bool.Decides.{nat_tests}
 use Rattle.partition.proofs.SiteFacts.{numbers_more, numbers_still}
 use Rattle.partition.proofs.site.numbers.Goals as goal
-use Rattle.partition.proofs.site.numbers.Goals.{then-from-machine+in_ok-push, else-from-machine}
+use Rattle.partition.proofs.site.numbers.Goals.{then-owners-vertex+in_ok-push, else-owners-vertex}
 
 pub loop-vertex-preserved : goal.loop-vertex-preserved
 loop-vertex-preserved c =
-    elim c.if-from-machine.branch [
-      | then-from-machine+in_ok-push w ↦
+    elim c.if-owners-vertex.branch [
+      | then-owners-vertex+in_ok-push w ↦
           let is : (slice_index c.args.owners.now c.loop-vertex.vertex == c.args.machine) ≡ true = grind (arith, nat_tests) in
           let same = w.numbers-is in
           rw same (numbers_more (λ v. slice_index c.args.owners.now v == c.args.machine) c.loop-vertex.vertex c.loop-vertex.numbers.items w.push.new.self.items is c.loop-vertex.invariant w.in_ok-push.ensures.items)
-      | else-from-machine w ↦
+      | else-owners-vertex w ↦
           let is : (slice_index c.args.owners.now c.loop-vertex.vertex == c.args.machine) ≡ false = grind (arith, nat_tests) in
           let same = w.numbers-is in
           rw same (numbers_still (λ v. slice_index c.args.owners.now v == c.args.machine) c.loop-vertex.vertex c.loop-vertex.numbers.items is c.loop-vertex.invariant)

@@ -1,4 +1,4 @@
-use Rattle.std.proofs.Common.{◌∙◌, arith, rules, length, w64}
+use Rattle.std.proofs.Common.{arith, rules, length, w64}
 use Rattle.std.specs.Int.RustNames.{FitsSigned}
 use Rattle.std.proofs.lemmas.Int.{to_z-of_z}
 use Rattle.std.proofs.lemmas.List.{get_or_read}
@@ -25,4 +25,4 @@ returns c =
     let owner = get_or_read c.self.inside.site.owners.items c.link_at-link.result.other _ link.1 c.index.ensures 0 in
     rw (← c.self.view_is, to_z-of_z w64 c.key.result whole)
     (entry_read c.self.inside.machines c.self.inside.site c.self.inside.vertices.elements c.self.inside.edges.elements c.self.inside.outgoing c.self.inside.incoming c.in_direction-lists.result.now c.args.out
-    c.in_direction-lists.ensures c.args.place c.args.no c.link_at-link.result c.key.result c.from.result c.link_at-link.ensures link.0 c.key.ensures (c.from.ensures ∙ owner))
+    c.in_direction-lists.ensures c.args.place c.args.no c.link_at-link.result c.key.result c.index.result.now c.link_at-link.ensures link.0 c.key.ensures owner)
