@@ -1,6 +1,6 @@
 -- The query of a tree without faults is well formed, and its constants are valid.
 use Rattle.std.proofs.Common.{◌≡◌, ◌∙◌, refl, sym, ap, subst, ℕ, suc, ◌+◌, ◌≤◌, ◌<◌, Bool, true, false, List, [], ◌∷◌, ◌++◌, length, map, Option, Some, None, arith}
-use Rattle.std.specs.Prelude.{not, find, flat_map, fold, slice_index, All}
+use Rattle.std.specs.Prelude.{find, flat_map, fold, slice_index, All}
 use Rattle.std.specs.List.{AllByRecursion, Contains, list_any}
 use Rattle.std.specs.Option.{option_and_then}
 use Rattle.std.specs.Str.{bytes_eq}

@@ -5,6 +5,7 @@ use Rattle.std.specs.List.{AllByRecursion, slice_get}
 use Rattle.std.proofs.lemmas.Bool.Decides.{nat_tests}
 use Rattle.std.proofs.lemmas.List.{append-nil, length-append, length-map, map-append}
 use Rattle.std.proofs.lemmas.Option.{slice_get_within}
+use Rattle.adfs_base.specs.declared.limits.TheConstants.{EDGE_VARIABLES, VERTEX_VARIABLES}
 use Rattle.pgql_tree.specs.declared.ast.EdgePat.{EdgePat}
 use Rattle.pgql_tree.specs.declared.ast.Path.{Path}
 use Rattle.pgql_tree.specs.declared.ast.Placed.{Placed}
@@ -29,8 +30,8 @@ FollowsJoins joins links = (set : ℕ → Bool) → AllByRecursion (λ join. set
 
 -- Declared without a fault, but for some edges that wait for their joins.
 pub record IsSound (waiting : List ℕ) (scope : Scope) : Type 0 where
-  pub few_vertices : length scope.vertices ≤ 10
-  pub few_edges : length scope.variables ≤ length scope.vertices + 12
+  pub few_vertices : length scope.vertices ≤ VERTEX_VARIABLES
+  pub few_edges : length scope.variables ≤ length scope.vertices + EDGE_VARIABLES
   pub vertices : map (λ vertex. vertex.0) scope.vertices ≡ vertices_from 0 (edges_in scope)
   pub joined : map (λ join. join.edge) scope.edges ++ waiting ≡ edges_from 0 (edges_in scope)
   pub ends : AllByRecursion (JoinsVertices (edges_in scope)) scope.edges
@@ -174,9 +175,9 @@ Vertex waiting old after = Extends old after.0 × EndsAtVertex waiting after
 brings_vertex : (waiting : List ℕ) (scope : Scope) (name : Option (List ℕ)) (pattern : VertexPat) → (scope.faults ≡ [] → IsSound waiting scope)
     → Vertex waiting scope (spec.with_vertex scope name pattern, Some (length scope.variables))
 brings_vertex waiting scope name pattern sound = (
-  extends-push scope (spec.with_vertex scope name pattern) (record { name = name; edge = false }) (spec.too_many (nat_le 10 (length scope.vertices)) pattern.at) refl refl,
+  extends-push scope (spec.with_vertex scope name pattern) (record { name = name; edge = false }) (spec.too_many (nat_le VERTEX_VARIABLES (length scope.vertices)) pattern.at) refl refl,
   (λ none.
-      let parts = none-append scope.faults (spec.too_many (nat_le 10 (length scope.vertices)) pattern.at) none in
+      let parts = none-append scope.faults (spec.too_many (nat_le VERTEX_VARIABLES (length scope.vertices)) pattern.at) none in
       let pushed = edges-push scope.variables (record { name = name; edge = false }) in
       let last : IsVertex (edges_in scope ++ false ∷ []) (length (edges_in scope)) = get-pushed (edges_in scope) false in (
         sound-with_vertex waiting scope name pattern (sound parts.0) (not_too_many 10 (length scope.vertices) pattern.at parts.1),
@@ -216,7 +217,7 @@ Edge old after = Extends old after.0 × (after.0.faults ≡ [] → IsSound (leng
 
 brings_edge : (scope : Scope) (name : Option (List ℕ)) (pattern : EdgePat) → (scope.faults ≡ [] → IsSound [] scope) → Edge scope (spec.with_edge scope name pattern, Some (length scope.variables))
 brings_edge scope name pattern sound =
-    let more = spec.too_many (nat_le 12 (length scope.variables - length scope.vertices)) pattern.at in (
+    let more = spec.too_many (nat_le EDGE_VARIABLES (length scope.variables - length scope.vertices)) pattern.at in (
       extends-push scope (spec.with_edge scope name pattern) (record { name = name; edge = true }) more refl refl,
       (λ none.
           let parts = none-append scope.faults more none in

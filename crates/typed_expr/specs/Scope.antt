@@ -1,5 +1,6 @@
 -- What the patterns of MATCH declare, read in order: variables, which of them edges join, and faults.
-use Rattle.std.specs.Prelude.{◌≡◌, ℕ, ◌+◌, ◌-◌, Bool, true, false, nat_le, if◌then◌else◌, List, [], ◌∷◌, ◌++◌, length, fold, Option, Some, None}
+use Rattle.std.specs.Prelude.{◌≡◌, ℕ, ◌-◌, Bool, true, false, nat_le, if◌then◌else◌, List, [], ◌∷◌, ◌++◌, length, fold, Option, Some, None}
+use Rattle.adfs_base.specs.declared.limits.TheConstants.{EDGE_VARIABLES, VERTEX_VARIABLES}
 use Rattle.pgql_tree.specs.declared.ast.VertexPat.{VertexPat}
 use Rattle.pgql_tree.specs.declared.ast.EdgePat.{EdgePat}
 use Rattle.pgql_tree.specs.declared.ast.Path.{Path}
@@ -30,7 +31,7 @@ with_vertex scope name pattern = record {
   vertices = scope.vertices ++ (length scope.variables, pattern.at) ∷ [];
   edges = scope.edges;
   links = scope.links;
-  faults = scope.faults ++ too_many (nat_le 10 (length scope.vertices)) pattern.at;
+  faults = scope.faults ++ too_many (nat_le VERTEX_VARIABLES (length scope.vertices)) pattern.at;
 }
 
 -- an edge pattern brings a variable, and not the 13th edge
@@ -41,7 +42,7 @@ with_edge scope name pattern = record {
   vertices = scope.vertices;
   edges = scope.edges;
   links = scope.links;
-  faults = scope.faults ++ too_many (nat_le 12 (length scope.variables - length scope.vertices)) pattern.at;
+  faults = scope.faults ++ too_many (nat_le EDGE_VARIABLES (length scope.variables - length scope.vertices)) pattern.at;
 }
 
 abbrev pub with_labels : Scope → ℕ → List (List ℕ) → Scope

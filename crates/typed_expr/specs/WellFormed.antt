@@ -1,6 +1,7 @@
 -- What each query that has a meaning keeps to.
 use Rattle.std.specs.Prelude.{◌≡◌, ℕ, ◌+◌, ◌<◌, ◌≤◌, Bool, true, false, List, [], ◌∷◌, ◌++◌, length, map, All, Some}
 use Rattle.std.specs.List.{Contains, slice_get}
+use Rattle.adfs_base.specs.declared.limits.TheConstants.{EDGE_VARIABLES, VERTEX_VARIABLES}
 use Rattle.typed_expr.specs.declared.expr.Expr.{Expr}
 use Rattle.typed_expr.specs.declared.query.EdgeJoin.{EdgeJoin}
 use Rattle.typed_expr.specs.declared.query.Query.{Query}
@@ -47,8 +48,8 @@ abbrev pub expressions : Query → List Expr
 expressions query = query.conjuncts ++ map (λ column. column.0) query.select ++ map (λ key. key.0) query.keys
 
 pub record IsWellFormed (query : Query) : Type 0 where
-  pub few_vertices : length (vertex_variables query) ≤ 10
-  pub few_edges : length (edge_variables query) ≤ 12
+  pub few_vertices : length (vertex_variables query) ≤ VERTEX_VARIABLES
+  pub few_edges : length (edge_variables query) ≤ EDGE_VARIABLES
   pub begins_with_vertex : IsVertex (are_edges query) 0
   -- each edge is joined once, and the joins stand in the order of their edges
   pub edges_are_joined : map (λ join. join.edge) query.edges ≡ edge_variables query
