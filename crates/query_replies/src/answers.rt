@@ -1,4 +1,4 @@
-ghost use Rattle.std.specs.Prelude.{◌≡◌, ◌+◌, ◌-◌, ◌<◌, ◌≤◌, ◌^◌, ◌||◌, ℕ, true, false, List, IfOk, OnOk, All, length, map};
+ghost use Rattle.std.specs.Prelude.{◌≡◌, ◌+◌, ◌-◌, ◌<◌, ◌≤◌, ◌↔◌, ◌^◌, ◌||◌, ℕ, true, false, List, IfOk, OnOk, All, length, map};
 ghost use Rattle.pgql_lexer.specs.Places.{LiesBetween};
 ghost use Rattle.pgql_meaning.specs.Answer.{answer_of};
 ghost use Rattle.pgql_meaning.specs.Shown.{HasMeaning, HasShown};
@@ -68,7 +68,7 @@ fn answered(
 
 // Whether the literals of a tree find numbers. They always do within the limits of graphs and files.
 fn has_numbers(texts: &Texts, ast: &Ast) -> bool
-    ensures { result ≡ true → length texts.now + length (all_literals ast.now) < 2 ^ 32 - 1 }
+    ensures { result ≡ true ↔ length texts.now + length (all_literals ast.now) < 2 ^ 32 - 1 }
 {
     (texts.len() as u64) + (literal_count(ast) as u64) < 4_294_967_295
 }

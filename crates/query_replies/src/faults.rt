@@ -1,5 +1,5 @@
 //! Why a query isn't answered, by number and place.
-ghost use Rattle.std.specs.Prelude.{◌≡◌, ◌≢◌, IfOk, Ok};
+ghost use Rattle.std.specs.Prelude.{◌≡◌, ◌≢◌, IfOk, IsOk, Ok};
 ghost use Rattle.query_replies.specs.Faults as spec;
 
 use adfs_base::NoMemory;
@@ -17,6 +17,7 @@ fn at(code: u32, at: u32) -> Result<Refusal, NoMemory>
 fn refusal_of_lex(fault: LexFault) -> Result<Refusal, NoMemory>
     ensures ok { IfOk result (λ refusal. refusal ≡ spec.refusal_of_lex fault) }
     ensures memory { IfOk result (λ refusal. fault ≢ LexFault.NoMemory) }
+    ensures told { fault ≢ LexFault.NoMemory → IsOk result }
 {
     match fault {
         LexFault::BadCharacter(place) => at(10, place),
@@ -27,10 +28,11 @@ fn refusal_of_lex(fault: LexFault) -> Result<Refusal, NoMemory>
     }
 }
 
-/// The refusal of a text that has no tree.
+/// The refusal of a text that has no tree. `NoMemory` where memory was wanting, and only there.
 pub fn refusal_of_syntax(fault: SyntaxFault) -> Result<Refusal, NoMemory>
     ensures ok { IfOk result (λ refusal. refusal ≡ spec.refusal_of_syntax fault) }
     ensures memory { IfOk result (λ refusal. fault ≢ SyntaxFault.NoMemory) }
+    ensures told { fault ≢ SyntaxFault.NoMemory → fault ≢ SyntaxFault.Lex LexFault.NoMemory → IsOk result }
 {
     match fault {
         SyntaxFault::Lex(fault) => refusal_of_lex(fault),
@@ -40,10 +42,11 @@ pub fn refusal_of_syntax(fault: SyntaxFault) -> Result<Refusal, NoMemory>
     }
 }
 
-/// The refusal of a tree that means nothing.
+/// The refusal of a tree that means nothing. `NoMemory` where memory was wanting, and only there.
 pub fn refusal_of_typing(fault: TypeFault) -> Result<Refusal, NoMemory>
     ensures ok { IfOk result (λ refusal. refusal ≡ spec.refusal_of_typing fault) }
     ensures memory { IfOk result (λ refusal. fault ≢ TypeFault.NoMemory) }
+    ensures told { fault ≢ TypeFault.NoMemory → IsOk result }
 {
     match fault {
         TypeFault::UnknownName(place) => at(40, place),
