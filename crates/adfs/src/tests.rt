@@ -18,7 +18,13 @@ fn a_file_of_many_pieces_is_read_to_its_end(rt: HostRuntime) -> Result<(), Fail>
     let mut into = Vec::new(alloc);
     let long = vec![in alloc; b'x'; 40_000]?;
     fs::write(&rt, "long.txt", long.as_slice())?;
-    for (most, len) in [(40_000, 40_000), (39_999, 40_000), (20_000, 20_001)] {
+    for (most, len) in [
+        (40_000, 40_000),
+        (39_999, 40_000),
+        (20_000, 20_001),
+        // At the end of a piece.
+        (16_384, 16_385),
+    ] {
         assert_eq!(rt;
             load_by(&mut store, "long.txt", most, &mut into),
             Loaded::Whole
