@@ -19,6 +19,8 @@ impl<W: Write + Drop> StreamSink<W> {
 impl<W: Write + Drop> Sink for StreamSink<W> {
     ghost held = { λ _. None };
 
+    ghost pieces = { λ _. None };
+
     ghost faults = { λ s. s.faults };
 
     fn put(&mut self, bytes: &[u8]) -> Put {

@@ -3,3 +3,4 @@ pub mod Counts
 pub mod Files
 pub mod MemSink
 pub mod MemStore
+pub mod Shape

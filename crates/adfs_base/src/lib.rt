@@ -10,21 +10,31 @@
 //! Those over real files and streams tell nothing but their counts, and stand in the program's own crate.
 #![tactic(auto)]
 
+mod gate;
 mod limits;
 mod mem_sink;
 mod mem_store;
 mod name;
 mod part_word;
+mod shape;
 mod sink;
+mod step_answers;
 mod store;
 mod value;
 
-pub use limits::{CONTEXT_WORDS, EDGE_VARIABLES, MOST_STAGES, VERTEX_VARIABLES};
+pub use gate::{Gate, OpenGate};
+pub use limits::{
+    BROAD_BUDGET, BUFFER_CONTEXTS, CONTEXT_WORDS, CREDITS, EDGE_VARIABLES, EDGES,
+    EXPRESSION_HEIGHT, FILE_BYTES, MACHINES, MOST_STAGES, PROPERTY_CELLS, QUERIES, ROOT_CHUNK,
+    TABLE_BYTES, TABLES, VERTEX_VARIABLES, VERTICES, WORKERS,
+};
 pub use mem_sink::MemSink;
 pub use mem_store::MemStore;
 pub use name::{Name, NoMemory};
 pub use part_word::PartWord;
+pub use shape::Shape;
 pub use sink::{Put, Sink};
+pub use step_answers::{Charge, Claimed, Closing, Marked, Pick, Word};
 pub use store::{Loaded, Store};
 pub use value::{Kind, Value};
 

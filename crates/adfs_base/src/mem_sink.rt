@@ -1,4 +1,4 @@
-ghost use Rattle.std.specs.Prelude.{◌≡◌, ◌≤◌, ◌++◌, [], ℕ, Option, Some, IfOk, take, length};
+ghost use Rattle.std.specs.Prelude.{◌≡◌, ◌≤◌, ◌++◌, [], ℕ, Option, Some, None, IfOk, take, length};
 ghost use Rattle.adfs_base.specs.Counts.{Rose};
 ghost use Rattle.adfs_base.specs.MemSink.{put_of};
 
@@ -59,6 +59,8 @@ impl MemSink {
 
 impl Sink for MemSink {
     ghost held = { λ s. Some s.held };
+
+    ghost pieces = { λ _. None };
 
     ghost faults = { λ s. s.faults };
 

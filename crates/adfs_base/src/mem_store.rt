@@ -1,6 +1,6 @@
 ghost use Rattle.std.specs.Prelude.{◌≡◌, ◌≢◌, ◌≤◌, ◌+◌, [], Option, Some, None, map, take, length};
 ghost use Rattle.std.specs.Option.{option_copied};
-ghost use Rattle.adfs_base.specs.Counts.{Rose};
+ghost use Rattle.adfs_base.specs.Counts.{counted, Rose};
 ghost use Rattle.adfs_base.specs.Files.{file_of, Reads};
 ghost use Rattle.adfs_base.specs.MemStore.{answer_of, load_of};
 
@@ -99,6 +99,7 @@ impl Store for MemStore {
     fn load(&mut self, name: &str, most: u64, into: &mut Vec<u8>) -> Loaded
         requires { into.old.items ≡ [] }
         ensures exact { result ≢ Loaded.NoMemory → load_of self.old name.now ≡ (result, self.new) }
+        ensures out_of_memory { result ≡ Loaded.NoMemory → self.new ≡ record self.old { loads = counted self.old.loads } }
         ensures files { self.new.files ≡ self.old.files }
         ensures counts { self.old.faults ≤ self.new.faults }
         ensures whole { result ≡ Loaded.Whole → Reads (Some self.old.files) name.now most into.new.items }
