@@ -1,1 +1,7 @@
+pub mod Bags
+pub mod Batch
+pub mod Laws
+pub mod Leaves
+pub mod Tree
+pub mod Weight
 pub mod Words
