@@ -1,5 +1,5 @@
 -- The attempts of a turn, in their order.
-use Rattle.std.specs.Prelude.{ℕ, Bool, true, false, not, ◌&&◌, ◌||◌, ◌==◌, if◌then◌else◌, List, [], ◌∷◌, ◌++◌, Option, Some, None}
+use Rattle.std.specs.Prelude.{ℕ, Bool, not, ◌&&◌, ◌==◌, if◌then◌else◌, List, [], ◌∷◌, ◌++◌, Option, Some, None}
 use Rattle.bfs_budget.specs.declared.tries.Attempt.{Attempt}
 use Rattle.bfs_budget.specs.declared.tries.Attempt.TheVariants as attempt
 use Rattle.bfs_budget.specs.declared.tries.HandState.{HandState}

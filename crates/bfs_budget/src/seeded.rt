@@ -8,6 +8,7 @@ const STEP: u64 = 0x9E37_79B9_7F4A_7C15;
 
 /// The factors by which the bits of a state are spread.
 const FIRST_FACTOR: u64 = 0xBF58_476D_1CE4_E5B9;
+
 const SECOND_FACTOR: u64 = 0x94D0_49BB_1331_11EB;
 
 /// Begins where a generator says whose state this is, the lower half of each draw.
