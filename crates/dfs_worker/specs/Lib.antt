@@ -1,5 +1,6 @@
 pub mod Slots
 pub mod State
+pub mod Tower
 pub mod Own
 pub mod Sound
 pub mod Guards

@@ -1,5 +1,5 @@
 -- What each event does to its worker.
-use Rattle.std.specs.Prelude.{ℕ, ◌+◌, true, false, nat_lt, ◌==◌, if◌then◌else◌, List, [], ◌∷◌, ◌++◌, length, slice_index_or, Option, Some, None}
+use Rattle.std.specs.Prelude.{Bool, ℕ, ◌+◌, true, false, nat_lt, ◌==◌, if◌then◌else◌, List, [], ◌∷◌, ◌++◌, length, slice_index_or, Option, Some, None}
 use Rattle.adfs_base.specs.declared.step_answers.Word.{Word}
 use Rattle.adfs_base.specs.declared.step_answers.Word.TheVariants.{Enrolled, Used}
 use Rattle.match_context.specs.declared.context.Context.{Context}
@@ -30,43 +30,63 @@ abbrev pub retired : State → State
 retired worker = record worker { enrolled = false }
 
 -- ---- advance: one answer of the top
--- The stack when the top's context has ended: it goes on with its next root or item. Where there is none a message
--- frame is over, and any other is taken off.
-abbrev pub ended : Tree → ℕ → Frame → List Frame → Rest → List Frame
-ended tree machine frame frames rest.None = frames
-ended tree machine frame frames (rest.Roots next end) =
+-- The frame when its context has ended: it goes on with its next root or item. Where there is none a message frame is
+-- over, and any other is taken off.
+abbrev pub ended : Tree → ℕ → Frame → Rest → Option Frame
+ended tree machine frame rest.None = None
+ended tree machine frame (rest.Roots next end) =
     if nat_lt next end
-    then record frame { context = tree.root machine next; place = 0; rest = rest.Roots (next + 1) end } ∷ frames
-    else frames
-ended tree machine frame frames (rest.Items message next over) =
+    then Some (record frame { context = tree.root machine next; place = 0; rest = rest.Roots (next + 1) end })
+    else None
+ended tree machine frame (rest.Items message next over) =
     if nat_lt next (length message.items.items)
-    then record frame {
+    then Some (record frame {
       context = slice_index_or message.items.items next frame.context;
       place = 0;
       rest = rest.Items message (next + 1) over;
-    } ∷ frames
-    else record frame { rest = rest.Items message next true } ∷ frames
+    })
+    else Some (record frame { rest = rest.Items message next true })
 
--- the top is here as `next` left it
-abbrev pub advanced_by : Tree → State → Frame → List Frame → Next → State
-advanced_by tree worker frame frames (Child context machine) =
-    record worker { stack = record frame { wait = Some (context, machine) } ∷ frames }
-advanced_by tree worker frame frames (Row context) =
-    record worker { stack = frame ∷ frames; rows = worker.rows ++ context ∷ [] }
-advanced_by tree worker frame frames Skip = record worker { stack = frame ∷ frames }
-advanced_by tree worker frame frames End = record worker { stack = ended tree worker.machine frame frames frame.rest }
+-- what an answer leaves of the frame, which is here as `next` left it
+abbrev pub stepped : Tree → ℕ → Frame → Next → Option Frame
+stepped tree machine frame (Child context to) = Some (record frame { wait = Some (context, to) })
+stepped tree machine frame (Row context) = Some frame
+stepped tree machine frame Skip = Some frame
+stepped tree machine frame End = ended tree machine frame frame.rest
+
+abbrev pub rows_with : List Context → Next → List Context
+rows_with rows (Child context to) = rows
+rows_with rows (Row context) = rows ++ context ∷ []
+rows_with rows Skip = rows
+rows_with rows End = rows
+
+abbrev pub frame_if : Bool → Frame → Option Frame
+frame_if kept frame = if kept then Some frame else None
+
+-- a frame, if there is one, on those below it
+abbrev pub onto : Option Frame → List Frame → List Frame
+onto None frames = frames
+onto (Some frame) frames = frame ∷ frames
 
 -- the top's next answer
 abbrev pub answer_at : Tree → ℕ → Frame → Next
 answer_at tree machine frame = answer (tree.ahead machine frame.stage frame.context frame.place)
 
-abbrev pub advanced_at : Tree → State → List Frame → State
-advanced_at tree worker [] = worker
-advanced_at tree worker (frame ∷ frames) =
-    advanced_by tree worker (after tree worker.machine frame) frames (answer_at tree worker.machine frame)
+abbrev pub frames_after : Tree → ℕ → List Frame → List Frame
+frames_after tree machine [] = []
+frames_after tree machine (frame ∷ frames) =
+    onto (stepped tree machine (after tree machine frame) (answer_at tree machine frame)) frames
+
+abbrev pub rows_after : Tree → ℕ → List Context → List Frame → List Context
+rows_after tree machine rows [] = rows
+rows_after tree machine rows (frame ∷ frames) = rows_with rows (answer_at tree machine frame)
 
 abbrev pub advanced : Tree → State → State
-advanced tree worker = advanced_at tree worker worker.stack
+advanced tree worker =
+    record worker {
+      stack = frames_after tree worker.machine worker.stack;
+      rows = rows_after tree worker.machine worker.rows worker.stack;
+    }
 
 abbrev pub IsRow : Next → Type 0
 IsRow (Child context machine) = ⊥

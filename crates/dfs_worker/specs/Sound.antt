@@ -1,5 +1,5 @@
 -- What each worker keeps, whatever it does.
-use Rattle.std.specs.Prelude.{◌≡◌, ℕ, ◌+◌, ◌*◌, ◌<◌, ◌≤◌, Bool, true, false, List, [], ◌∷◌, length, slice_index_or, Option, Some, None}
+use Rattle.std.specs.Prelude.{◌^◌, ◌≡◌, ℕ, ◌+◌, ◌*◌, ◌<◌, ◌≤◌, Bool, true, false, List, [], ◌∷◌, length, slice_index_or, Option, Some, None}
 use Rattle.adfs_base.specs.Shape.{Extents, IsShape}
 use Rattle.match_context.specs.declared.context.Context.{Context}
 use Rattle.match_context.specs.declared.frame.Frame.{Frame}
@@ -72,6 +72,16 @@ RestWithin roots (rest.Items message next over) = Unit {0}
 abbrev pub WithinRoots : ℕ → List Frame → Type 0
 WithinRoots roots [] = Unit {0}
 WithinRoots roots (frame ∷ frames) = RestWithin roots frame.rest × WithinRoots roots frames
+
+-- the same, and the places of the items can be counted
+abbrev pub RestFits : ℕ → Rest → Type 0
+RestFits roots rest.None = Unit {0}
+RestFits roots (rest.Roots next end) = end ≤ roots
+RestFits roots (rest.Items message next over) = length message.items.items < 2 ^ 32
+
+abbrev pub TopFits : ℕ → ℕ → List Frame → Type 0
+TopFits stages roots [] = Unit {0}
+TopFits stages roots (frame ∷ frames) = (frame.stage < stages) × RestFits roots frame.rest
 
 -- ---- open buffers
 -- what is open stands in the place of its stage and machine, and holds a context

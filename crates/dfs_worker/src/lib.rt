@@ -2,9 +2,14 @@
 #![tactic(auto)]
 
 mod event;
+mod frames;
 mod guard;
 mod hand;
+mod outbox;
+mod stack;
+mod worker;
 
 pub use event::Event;
 pub use guard::Guard;
 pub use hand::Hand;
+pub use worker::Worker;
