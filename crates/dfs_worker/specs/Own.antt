@@ -1,5 +1,5 @@
 -- What each event does to its worker.
-use Rattle.std.specs.Prelude.{Bool, ℕ, ◌+◌, true, false, nat_lt, ◌==◌, if◌then◌else◌, List, [], ◌∷◌, ◌++◌, length, slice_index_or, Option, Some, None}
+use Rattle.std.specs.Prelude.{◌≡◌, Bool, ℕ, ◌+◌, true, false, nat_lt, ◌==◌, if◌then◌else◌, List, [], ◌∷◌, ◌++◌, length, slice_index_or, Option, Some, None}
 use Rattle.adfs_base.specs.declared.step_answers.Word.{Word}
 use Rattle.adfs_base.specs.declared.step_answers.Word.TheVariants.{Enrolled, Used}
 use Rattle.match_context.specs.declared.context.Context.{Context}
@@ -214,6 +214,17 @@ restored_at worker (frame ∷ frames) = restored_by worker frames frame.rest
 
 abbrev pub restored : State → State
 restored worker = restored_at worker worker.stack
+
+-- the buffer that leaves: that of the top's message, empty
+abbrev pub IsRestBuffer : Rest → Batch → Type 0
+IsRestBuffer rest.None buffer = ⊥
+IsRestBuffer (rest.Roots next end) buffer = ⊥
+IsRestBuffer (rest.Items message next over) buffer =
+    buffer ≡ record { home = message.items.home; size = message.items.size; items = [] }
+
+abbrev pub IsTopBuffer : List Frame → Batch → Type 0
+IsTopBuffer [] buffer = ⊥
+IsTopBuffer (frame ∷ frames) buffer = IsRestBuffer frame.rest buffer
 
 -- ---- mark: a word of the stage `closed` is marked. Closing leaves the worker as it is.
 abbrev pub event_word : ℕ → ℕ → ℕ → Word

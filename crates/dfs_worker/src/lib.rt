@@ -4,6 +4,7 @@
 mod event;
 mod frames;
 mod guard;
+mod guards;
 mod hand;
 mod outbox;
 mod stack;

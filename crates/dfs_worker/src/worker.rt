@@ -79,9 +79,9 @@ impl Worker {
 
 /// What it holds.
 impl Worker {
-    ghost use Rattle.dfs_worker.specs.Slots.{open_at};
+    ghost use Rattle.dfs_worker.specs.Slots.{open_at, is_open, has_room};
     ghost use Rattle.dfs_worker.specs.Sound.{IsWorker};
-    ghost use Rattle.dfs_worker.specs.State.{waiting};
+    ghost use Rattle.dfs_worker.specs.State.{waiting, next_stage};
 
     /// Its number among the workers of all machines.
     pub fn number(&self) -> u32
@@ -148,6 +148,38 @@ impl Worker {
         ensures { result ≡ self.now.idle }
     {
         self.idle
+    }
+
+    /// The top of its stack.
+    pub fn top(&self) -> Option<&Frame>
+        ensures { MatchOption result (self.now.stack ≡ []) (λ f. (fs : _) × (self.now.stack ≡ f.now ∷ fs)) }
+    {
+        self.stack.top()
+    }
+
+    /// The stage above that of the top, or 0 on an empty stack: a message must be of this stage at least.
+    pub fn next_stage(&self) -> u32
+        requires { IsWorker self.now }
+        ensures { result ≡ next_stage self.now.stack }
+    {
+        match self.stack.top() {
+            Some(top) => top.stage + 1,
+            None => 0,
+        }
+    }
+
+    /// Whether a buffer is open for a stage and a machine.
+    pub fn is_open(&self, stage: u32, to: u32) -> bool
+        ensures { result ≡ is_open self.now.slots stage to }
+    {
+        self.outbox.is_open(stage, to)
+    }
+
+    /// Whether a buffer with room is open for a stage and a machine.
+    pub fn has_room(&self, stage: u32, to: u32) -> bool
+        ensures { result ≡ has_room self.now.slots stage to }
+    {
+        self.outbox.has_room(stage, to)
     }
 
     /// The stage and the machine of the child that the top waits with.
@@ -262,8 +294,8 @@ impl Worker {
 
 /// Its own part of each event.
 impl Worker {
-    ghost use Rattle.dfs_worker.specs.Guards.{child_test, is_charged};
-    ghost use Rattle.dfs_worker.specs.Own.{claimed, advanced, descended, appended, charged, fetched, posted, freed, popped, picked, restored, AddsRow};
+    ghost use Rattle.dfs_worker.specs.Guards.{child_test, is_charged, top_over};
+    ghost use Rattle.dfs_worker.specs.Own.{claimed, advanced, descended, appended, charged, fetched, posted, freed, popped, picked, restored, AddsRow, IsTopBuffer};
     ghost use Rattle.dfs_worker.specs.Slots.{has_room};
     ghost use Rattle.dfs_worker.specs.Sound.{IsWorker, WithinRoots};
 
@@ -401,5 +433,25 @@ impl Worker {
             }
             other => self.hand = other,
         }
+    }
+
+    /// The buffer of the top, which is over, comes out of it, empty, and its credit is in hand.
+    pub fn restore(&mut self) -> Option<Buffer>
+        requires { top_over self.old.stack ≡ true }
+        ensures { MatchOption result ⊥ (λ b. (self.new ≡ restored self.old) × IsTopBuffer self.old.stack b) }
+    {
+        let Frame { rest, .. } = self.stack.pop()?;
+        let Rest::Items { message, .. } = rest else {
+            return None;
+        };
+        let Message {
+            from,
+            stage,
+            items: mut buffer,
+            ..
+        } = message;
+        buffer.clear();
+        self.hand = Hand::Emptied { from, stage };
+        Some(buffer)
     }
 }
