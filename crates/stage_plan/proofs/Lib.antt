@@ -1,0 +1,9 @@
+pub mod Picks
+pub mod Finds
+pub mod NextHop
+pub mod Sums
+pub mod Ready
+pub mod Owed
+pub mod Wellness
+pub mod Walks
+pub mod Whole

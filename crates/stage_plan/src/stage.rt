@@ -1,0 +1,25 @@
+use crate::hop::Hop;
+use crate::numbers::Numbers;
+
+/// What becomes known at a moment: the captures of a variable, which are then written, and the conjuncts that can
+/// then be tested, each by its place in the query.
+#[derive(Drop)]
+pub struct Gains {
+    pub captures: Numbers,
+    pub conjuncts: Numbers,
+}
+
+/// A stage of a plan.
+#[derive(Drop)]
+pub struct Stage {
+    /// The variable whose vertex one comes to here for the first time.
+    pub arriving: Option<u32>,
+    /// What becomes known on arrival.
+    pub arrival: Gains,
+    /// The hop that is taken then.
+    pub hop: Hop,
+    /// The variable of the vertex from which the hop goes.
+    pub current: u32,
+    /// What becomes known along the hop's edge.
+    pub passage: Gains,
+}
