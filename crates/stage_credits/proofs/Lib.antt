@@ -1,0 +1,17 @@
+pub mod Sums
+pub mod Frames
+pub mod Decoding
+pub mod Units
+pub mod Workers
+pub mod Chunks
+pub mod Stages
+pub mod Marks
+pub mod Sound
+pub mod Charging
+pub mod UnitSteps
+pub mod StageSteps
+pub mod WorkerLists
+pub mod Beginning
+pub mod Joining
+pub mod Own
+pub mod Ties
