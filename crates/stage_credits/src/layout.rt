@@ -1,6 +1,7 @@
 //! Where each counter stands among the words of the table.
 ghost use Rattle.std.specs.Prelude.{◌≡◌, ℕ, ◌+◌, ◌*◌, ◌<◌, ◌≤◌};
-ghost use Rattle.stage_credits.specs.Layout.{units, stage_start, unit_of, sender_of, target_of, limit_at, cursor_of, enrolled_of, closed_word, roots_of, IsUnit, IsWord, place_of};
+ghost use Rattle.stage_credits.specs.Layout.{units, stage_start, unit_of, sender_of, target_of, limit_at, cursor_of, enrolled_of, closed_word, roots_of, IsUnit, IsWord, place_of, stage_of};
+ghost use Rattle.stage_credits.specs.Rule.{IsWordOf};
 
 use crate::setup::Setup;
 use adfs_base::Word;
@@ -91,7 +92,8 @@ impl Setup {
     /// Where a word that must be 0 before its stage closes stands.
     pub(crate) fn place(&self, word: Word) -> u64
         requires { IsWord self.now.shape word }
-        ensures { result ≡ place_of self.now word }
+        ensures value { result ≡ place_of self.now word }
+        ensures stage { IsWordOf self.now (stage_of word) result }
     {
         match word {
             Word::Enrolled(machine) => self.enrolled(machine),

@@ -1,5 +1,5 @@
 //! The kinds of step, each on one word.
-ghost use Rattle.std.specs.Prelude.{◌≡◌, ◌<◌, ◌≤◌, ◌^◌};
+ghost use Rattle.std.specs.Prelude.{◌≡◌, ◌<◌, ◌≤◌, ◌^◌, []};
 ghost use Rattle.stage_credits.specs.Layout.{units, stage_start, sender_of, target_of, flying_of, cursor_of, enrolled_of, closed_word, word_count, roots_of, limit_at, IsUnit};
 ghost use Rattle.stage_credits.specs.Lists.{times};
 ghost use Rattle.stage_credits.specs.Views.{IsWithinLimit, after_look, after_exchange, after_charge, after_post, after_pick, after_discharge, after_seek, after_claim, after_retire, after_check, after_sight, after_close};
@@ -106,7 +106,8 @@ impl Credits {
         requires seat { IsSeatOf self.now seat.old }
         requires enrolled { 0 < times seat.old.machine seat.old.view.enrolled }
         requires ended { 0 < times seat.old.machine seat.old.view.ended }
-        ensures { seat.new ≡ with_view seat.old (after_retire seat.old.view (enrolled_of self.now.setup seat.old.machine) result) }
+        ensures view { seat.new ≡ with_view seat.old (after_retire seat.old.view (enrolled_of self.now.setup seat.old.machine) result) }
+        ensures gone { seat.new.view.enrolled ≡ [] }
     {
         let word = self.setup.enrolled(seat.machine);
         self.table
