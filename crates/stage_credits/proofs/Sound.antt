@@ -44,14 +44,14 @@ pub IsSound-used : (setup : Setup) (words : List ℕ) (views : List View) (id i 
     → IsSound setup words views → IsSound setup (set words i n) (set views id w)
 IsSound-used setup words views id i n v w at some_one side is_unit change others within above kept =
     let in_range : i < units setup = is_unit.below in record {
-  shape = kept.shape;
-  counted = length-set words i n ∙ kept.counted;
-  units_add_up = UnitsAddUp-used setup words views id i n v w at kept.counted is_unit change others within kept.units_add_up;
-  workers_add_up = WorkersAddUp-same setup words (set words i n) views id v w at (stay_above _ _ i n words (omega arith)) some_one side.workers side.enrolled kept.workers_add_up;
-  chunks_add_up = ChunksAddUp-same setup words (set words i n) views id v w at (stay_above _ _ i n words (omega arith)) side.chunks side.ended kept.chunks_add_up;
-  stages_close = StagesClose-used setup words views id i n w kept.counted in_range above kept.stages_close;
-  marks_stay = MarksStay-used setup words views id i n v w at kept.counted in_range above side.closed side.marks kept.marks_stay;
-}
+      shape = kept.shape;
+      counted = length-set words i n ∙ kept.counted;
+      units_add_up = UnitsAddUp-used setup words views id i n v w at kept.counted is_unit change others within kept.units_add_up;
+      workers_add_up = WorkersAddUp-same setup words (set words i n) views id v w at (stay_above _ _ i n words (omega arith)) some_one side.workers side.enrolled kept.workers_add_up;
+      chunks_add_up = ChunksAddUp-same setup words (set words i n) views id v w at (stay_above _ _ i n words (omega arith)) side.chunks side.ended kept.chunks_add_up;
+      stages_close = StagesClose-used setup words views id i n w kept.counted in_range above kept.stages_close;
+      marks_stay = MarksStay-used setup words views id i n v w at kept.counted in_range above side.closed side.marks kept.marks_stay;
+    }
 
 -- a `flying` word becomes n
 pub IsSound-flying : (setup : Setup) (words : List ℕ) (views : List View) (id i n : ℕ) (v w : View) → get_elem? views id ≡ some v → 0 < length v.workers

@@ -71,7 +71,6 @@ after_exchange held v word expected found = if found == expected then held v wor
 abbrev pub IsWithinLimit : View → ℕ → ℕ → Type 0
 IsWithinLimit v word found = word < units v.setup → found ≤ limit_at v.setup word
 
-
 abbrev pub LooksAt : Step ℕ → Me ℕ View → ℕ → Me ℕ View → Type 0
 LooksAt s me found after = (after ≡ (after_look me.0 s.word found, me.1)) × IsWithinLimit me.0 s.word found
 

@@ -27,8 +27,8 @@ mod credits;
 mod layout;
 mod opening;
 mod rule;
-mod setup;
 mod settling;
+mod setup;
 mod steps;
 mod view;
 

@@ -7,9 +7,7 @@ ghost use Rattle.stage_credits.specs.Rule.{IsWordOf};
 ghost use Rattle.stage_credits.specs.Seats.{IsSeatOf, with_view, MayCharge, HasMarkedAll};
 
 use crate::credits::{CreditSeat, Credits};
-use crate::rule::{
-    Check, Claim, Close, Discharge, Look, Post, Raise, Retire, Seek, Sight, Take,
-};
+use crate::rule::{Check, Claim, Close, Discharge, Look, Post, Raise, Retire, Seek, Sight, Take};
 
 impl Credits {
     /// Loads a word.
@@ -46,9 +44,7 @@ impl Credits {
         ensures { seat.new ≡ with_view seat.old (after_post seat.old.view (flying_of self.now.setup unit) result) }
     {
         let word = (self.setup.units() + unit) as usize;
-        self.table
-            .shared
-            .fetch_add::<Post>(&mut seat.seat, word, 1)
+        self.table.shared.fetch_add::<Post>(&mut seat.seat, word, 1)
     }
 
     /// Takes a message of the unit into work, if as many are under way as were seen.
