@@ -15,3 +15,4 @@ pub mod Beginning
 pub mod Joining
 pub mod Own
 pub mod Ties
+pub mod Weights

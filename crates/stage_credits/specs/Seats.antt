@@ -1,5 +1,5 @@
 -- What contracts see of the counters and of a seat, and what calls ask for.
-use Rattle.std.specs.Prelude.{◌≡◌, ◌≢◌, ℕ, List, [], ◌∷◌, ◌+◌, ◌/◌, ◌*◌, ◌<◌, ◌≤◌, ◌⊎◌, map, length, All, sum_by, slice_index}
+use Rattle.std.specs.Prelude.{◌≡◌, ◌≢◌, ℕ, List, [], ◌∷◌, ◌+◌, ◌-◌, ◌/◌, ◌*◌, ◌==◌, if◌then◌else◌, ◌<◌, ◌≤◌, ◌⊎◌, map, length, All, sum_by, slice_index}
 use Rattle.std.specs.List.{range_with_len, AllByRecursion}
 use Rattle.atomic_table.specs.Seated.{TableId}
 use Rattle.adfs_base.specs.declared.step_answers.Word.{Word}
@@ -9,6 +9,7 @@ use Rattle.stage_credits.specs.Rule.{covers}
 use Rattle.stage_credits.specs.Start.{fresh_view}
 use Rattle.stage_credits.specs.declared.setup.Setup.{Setup}
 use Rattle.stage_credits.specs.declared.view.View.{View}
+use Rattle.stage_credits.specs.declared.view.Chunk.{Chunk}
 
 -- the counters: which table they are, and the numbers that never change
 pub record Counters : Type 0 where
@@ -84,3 +85,13 @@ abbrev pub ClaimsMeet : ℕ → List ℕ → List Seated → Type 0
 ClaimsMeet machines cursors seats =
     (m place : ℕ) → m < machines
     → (place < slice_index cursors m → claims m place seats ≡ 1) × (slice_index cursors m ≤ place → claims m place seats ≡ 0)
+
+-- what the roots of that machine in the chunks weigh
+abbrev pub weight_of : (ℕ → ℕ) → ℕ → List Chunk → ℕ
+weight_of h machine [] = 0
+weight_of h machine (c ∷ cs) = (if c.machine == machine then sum_by h (range_with_len c.first (c.end - c.first)) else 0) + weight_of h machine cs
+
+-- however roots are weighed, those in the chunks of all seats weigh as much as those below the cursors
+abbrev pub ChunksWeigh : ℕ → List ℕ → List Seated → Type 0
+ChunksWeigh machines cursors seats =
+    (h : ℕ → ℕ) (m : ℕ) → m < machines → sum_by (λ s. weight_of h m s.view.chunks) seats ≡ sum_by h (range_with_len 0 (slice_index cursors m))

@@ -2,7 +2,7 @@
 ghost use Rattle.std.specs.Prelude.{◌≡◌, ℕ, ◌*◌, ◌<◌, ◌≤◌, length, slice_index};
 ghost use Rattle.stage_credits.specs.Layout.{roots_of};
 ghost use Rattle.stage_credits.specs.Rule.{covers};
-ghost use Rattle.stage_credits.specs.Seats.{AreAllSeats, ClaimsMeet, claims};
+ghost use Rattle.stage_credits.specs.Seats.{AreAllSeats, ClaimsMeet, ChunksWeigh, claims};
 
 use crate::credits::{CreditSeat, Credits};
 use crate::rule::AllIn;
@@ -14,6 +14,7 @@ impl Credits {
     pub fn settle(self, seats: Vec<CreditSeat>) -> [u64; 8]
         requires { AreAllSeats self seats.items }
         ensures claims { ClaimsMeet self.setup.shape.machines result seats.items }
+        ensures weights { ChunksWeigh self.setup.shape.machines result seats.items }
         ensures within { (m : ℕ) → m < self.setup.shape.machines → slice_index result m ≤ roots_of self.setup m }
         ensures past { (m : ℕ) → self.setup.shape.machines ≤ m → slice_index result m ≡ 0 }
     {
