@@ -11,6 +11,7 @@
 #![tactic(auto)]
 
 mod gate;
+mod hold_gate;
 mod limits;
 mod mem_sink;
 mod mem_store;
@@ -23,6 +24,7 @@ mod store;
 mod value;
 
 pub use gate::{Gate, OpenGate};
+pub use hold_gate::HoldGate;
 pub use limits::{
     BROAD_BUDGET, BUFFER_CONTEXTS, CONTEXT_WORDS, CREDITS, EDGE_VARIABLES, EDGES,
     EXPRESSION_HEIGHT, FILE_BYTES, MACHINES, MOST_STAGES, PROPERTY_CELLS, QUERIES, ROOT_CHUNK,
