@@ -1,0 +1,13 @@
+//! Graphs of random edges, as the tables of a manifest.
+//!
+//! A large job that anyone can make again from three numbers: the seed, and how many vertices and edges there are.
+//! `generate` gives exactly the three texts of `specs/Generated.antt`: each vertex has a weight below 1,000, and each
+//! edge goes from one vertex to another, all drawn in turn from the numbers of the seed (`seeded_draws`).
+#![tactic(auto)]
+
+mod tables;
+
+pub use tables::{Tables, generate};
+
+#[cfg(test)]
+mod tests;
