@@ -139,6 +139,15 @@ kept a b (Err e) f can says = λ fresh. by fresh (has_failed a) refl
 none_left : (a : Reader (Bor (List ℕ))) → has_failed a ≡ true → records_left a ≡ []
 none_left a failed = rw failed refl
 
+-- and one that fails now has none
+pub ended_by : (a b : Reader (Bor (List ℕ))) (r : Result Bool Error) (f : List (List ℕ)) → CanRead a → Says a b r f → IfErr r (λ e. records_left b ≡ [])
+ended_by a b (Ok found) f can says = tt
+ended_by a b (Err e) f can says = by (has_failed a) refl
+  where
+    by : (v : Bool) → has_failed a ≡ v → records_left b ≡ []
+    by true is = cc (says.failed is)
+    by false is = let k = can is in none_left b (says.fails ∙ stops a b (error_kind e) k.flexible (says.why k.ready))
+
 pub got : (a b : Reader (Bor (List ℕ))) (r : Result Bool Error) (f : List (List ℕ)) → CanRead a → Says a b r f
     → IfOk r (λ found. MatchBool found (records_left a ≡ f ∷ records_left b) (records_left a ≡ []))
 got a b (Err e) f can says = tt

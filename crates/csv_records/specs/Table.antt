@@ -1,5 +1,5 @@
 -- The records of a table's bytes.
-use Rattle.std.specs.Prelude.{◌≡◌, ◌+◌, ℕ, true, false, List, [], length, Option, Some, None}
+use Rattle.std.specs.Prelude.{◌≡◌, ◌+◌, ℕ, Bool, true, false, if◌then◌else◌, List, [], length, Option, Some, None}
 use Rattle.std.specs.Borrow.{Bor}
 use Rattle.csv.specs.Reading.{Ready, default_config, has_failed, is_flexible, reader_config, reader_state, reader_trim, records, records_from, source_of, strip_bom}
 use Rattle.csv.specs.declared.parser.State.{State}
@@ -20,6 +20,10 @@ remaining b = Some b.now
 
 abbrev pub records_left : Reader (Bor (List ℕ)) → List (List (List ℕ))
 records_left r = records_after (reader_state r) (source_of remaining r)
+
+-- none behind the end
+abbrev pub records_until : Bool → Reader (Bor (List ℕ)) → List (List (List ℕ))
+records_until ended r = if ended then [] else records_left r
 
 -- what a reader that has not failed keeps
 pub record Reads (r : Reader (Bor (List ℕ))) : Type 0 where

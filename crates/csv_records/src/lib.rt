@@ -10,7 +10,7 @@
 //! No text has more records than bytes and one, and no record more fields.
 #![tactic(auto)]
 
-ghost use Rattle.std.specs.Prelude.{◌≡◌, ◌≤◌, ◌+◌, length, ◌∷◌, [], ℕ, List, IfOk, MatchBool};
+ghost use Rattle.std.specs.Prelude.{◌≡◌, ◌≤◌, ◌+◌, length, ◌∷◌, [], ℕ, List, IfOk, OnOk, OnErr, MatchBool, drop};
 ghost use Rattle.std.specs.List.{AllByRecursion};
 ghost use Rattle.csv.specs.Records.{fields_of};
 ghost use Rattle.csv_records.specs.Table.{records_of};
@@ -24,6 +24,7 @@ use std::marker::Model;
 fn read_next(reader: &mut Reader<&[u8]>, row: &mut ByteRecord) -> Result<bool, AllocError>
     requires { CanRead reader.old }
     ensures keeps { CanRead reader.new }
+    ensures fails { OnErr result (records_left reader.new ≡ []) }
     ensures reads { IfOk result (λ found. MatchBool found (records_left reader.old ≡ fields_of row.new ∷ records_left reader.new) (records_left reader.old ≡ [])) }
 {
     match reader.read_byte_record(row) {
@@ -38,15 +39,17 @@ fn read_next(reader: &mut Reader<&[u8]>, row: &mut ByteRecord) -> Result<bool, A
 #[derive(Drop)]
 pub struct Records<'a> {
     reader: Reader<&'a [u8]>,
+    // The reader was asked behind its last record.
+    ended: bool,
 }
 
 impl<'a> Model for Records<'a> {
     ghost use Rattle.std.specs.Prelude.{List, ℕ};
-    ghost use Rattle.csv_records.specs.Table.{records_left, CanRead};
+    ghost use Rattle.csv_records.specs.Table.{records_until, CanRead};
 
     ghost Value = { List (List (List ℕ)) };
 
-    ghost view = { λ a. records_left a.reader };
+    ghost view = { λ a. records_until a.ended a.reader };
 
     ghost invariant = { λ a. CanRead a.reader };
 }
@@ -63,15 +66,26 @@ impl<'a> Records<'a> {
             .has_headers(false)
             .flexible(true)
             .from_reader(alloc, bytes);
-        Records { reader }
+        Records {
+            reader,
+            ended: false,
+        }
     }
 
     /// Reads the next record into `row`, in place of what it holds, and answers false where none is left.
     ///
-    /// `AllocError` is want of memory: the buffers of the reader, or those of `row`, couldn't grow.
+    /// `AllocError` is want of memory: the buffers of the reader, or those of `row`, couldn't grow. Then no record
+    /// is left.
     pub fn next(&mut self, row: &mut ByteRecord) -> Result<bool, AllocError>
-        ensures { IfOk result (λ found. MatchBool found (self.old ≡ fields_of row.new ∷ self.new) (self.old ≡ [])) }
+        ensures record_read { IfOk result (λ found. MatchBool found (self.old ≡ fields_of row.new ∷ self.new) (self.old ≡ [])) }
+        ensures rest { OnOk result (self.new ≡ drop 1 self.old) }
+        ensures err { OnErr result (self.new ≡ []) }
     {
-        read_next(&mut self.reader, row)
+        if self.ended {
+            return Ok(false);
+        }
+        let found = read_next(&mut self.reader, row)?;
+        self.ended = !found;
+        Ok(found)
     }
 }

@@ -62,9 +62,10 @@ impl<'a> Lines<'a> {
         Lines { rest: text }
     }
 
-    /// The next line, if one is left.
+    /// The next line, if one is left. Where none is, none comes later either.
     pub fn next(&mut self) -> Option<&'a [u8]>
-        ensures { MatchOption result (self.old ≡ []) (λ line. self.old ≡ line.now ∷ self.new) }
+        ensures line { MatchOption result (self.old ≡ []) (λ line. self.old ≡ line.now ∷ self.new) }
+        ensures rest { self.new ≡ drop 1 self.old }
     {
         let rest = self.rest;
         if rest.is_empty() {
