@@ -7,7 +7,7 @@ use Rattle.cli_words.specs.declared.command.Command.{Command}
 use Rattle.cli_words.specs.declared.command.Command.TheVariants.{Run}
 use Rattle.cli_words.specs.declared.options.Options.{Options}
 use Rattle.graph_tables.specs.Graph.{PropertyGraph, Vertex}
-use Rattle.graph_tables.specs.Loaded.{loaded}
+use Rattle.graph_loading.specs.Loaded.{loaded}
 use Rattle.graph_tables.specs.Properties.{SchemaLists}
 use Rattle.graph_tables.specs.declared.faults.Quantity.TheVariants as quantity
 use Rattle.partition.specs.OwnerFile.{owners_of}

@@ -5,13 +5,14 @@ ghost use Rattle.adfs_top.specs.Causes.{FailsAt, IsOfFiles, PartGives, StoreCaus
 ghost use Rattle.adfs_top.specs.Faults.{with_status};
 ghost use Rattle.adfs_top.specs.Outcome.{file_bytes, listed_owner, owner_of};
 ghost use Rattle.graph_tables.specs.Graph.{IsWhole};
-ghost use Rattle.graph_tables.specs.Loaded.{loaded};
+ghost use Rattle.graph_loading.specs.Loaded.{loaded};
 
 use crate::Status;
 use crate::faults::{passed, status_of, status_of_owners};
 use adfs_base::{Loaded, PartWord, Store};
 use cli_words::Options;
-use graph_tables::{Graph, Quantity, load_graph};
+use graph_loading::load_graph;
+use graph_tables::{Graph, Quantity};
 use partition::{Owner, read_owners};
 use std::alloc::Global;
 

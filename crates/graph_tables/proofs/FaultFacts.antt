@@ -60,10 +60,10 @@ pub lifted : {X : Type 0} (e : TableFault) (given : Result X TableFault) → Giv
 lifted e given h = lift e e.kind given h
 
 -- a fault of a step on bytes has no cause in the store
-no_read_fault : {X : Type 0} (e : TableFault) (k : TableKind) (given : Result X TableFault) → GivesFault e k given → k ≡ kind.ReadFault → ⊥
+pub no_read_fault : {X : Type 0} (e : TableFault) (k : TableKind) (given : Result X TableFault) → GivesFault e k given → k ≡ kind.ReadFault → ⊥
 no_read_fault e k given h is = rw is at h
 
-no_missing : {X : Type 0} (e : TableFault) (k : TableKind) (given : Result X TableFault) → GivesFault e k given → k ≡ kind.Missing → ⊥
+pub no_missing : {X : Type 0} (e : TableFault) (k : TableKind) (given : Result X TableFault) → GivesFault e k given → k ≡ kind.Missing → ⊥
 no_missing e k given h is = rw is at h
 
 pub own_cause : {F X Y : Type 0} (files : Option F) (faults faults_now misses misses_now : ℕ) (e : TableFault) (given : Result Y TableFault) → faults ≤ faults_now → misses ≤ misses_now

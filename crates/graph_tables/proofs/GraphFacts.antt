@@ -3,8 +3,9 @@ use Rattle.std.proofs.Common.{◌≡◌, ap, refl, arith, ℕ, ℤ, zero, suc, L
 use Rattle.std.specs.List.{AllByRecursion}
 use Rattle.element_store.specs.Elements.{Element}
 use Rattle.graph_tables.specs.Graph.{Edge, EndsIn, without_ends}
-use Rattle.graph_tables.specs.Loading.{edges_with}
+use Rattle.graph_tables.specs.Loading.{IsReadable, IsSound, edges_with}
 use Rattle.graph_tables.specs.declared.loading.Ends.{Ends}
+use Rattle.graph_tables.specs.declared.loading.Loading.{Loading}
 
 pub length-edges_with : (es : List Element) (ends : List Ends) → length ends ≡ length es → length (edges_with es ends) ≡ length es
 length-edges_with [] ends e = refl
@@ -50,3 +51,12 @@ fields_are e read at h =
     let key : e.key ≡ read.0 = cc h in
     let label : e.label ≡ read.1 = cc h in
     rw (key, label) refl
+
+-- what was loaded can be read
+pub readable : (l : Loading) → IsSound l → IsReadable l
+readable l s = record {
+  ends_beside = s.ends_beside;
+  ends = s.whole.ends;
+  few_vertices = omega (arith, s.few_vertices);
+  few_edges = omega (arith, s.few_edges);
+}

@@ -3,12 +3,12 @@ use Rattle.std.proofs.Common.{◌≡◌, ◌∙◌, sym, refl, ◌<◌, ◌≤�
 use Rattle.std.proofs.lemmas.List.{drop_all}
 use Rattle.graph_tables.specs.Faults.{◌>>=◌, fault_at}
 use Rattle.graph_tables.specs.Headers.{Heading, columns_from, header_cell, or_bad, with_column}
-use Rattle.graph_tables.specs.Rows.{cell_at}
+use Rattle.graph_tables.specs.Headers.{cell_at}
 use Rattle.graph_tables.specs.declared.faults.Place.{Place}
 use Rattle.graph_tables.specs.declared.faults.TableFault.{TableFault}
 use Rattle.graph_tables.specs.declared.faults.TableKind.TheVariants as kind
-use Rattle.graph_tables.specs.declared.manifest.ElementKind.{ElementKind}
-use Rattle.graph_tables.proofs.RowLaws.{drop_cell}
+use Rattle.graph_tables.specs.declared.element_kind.ElementKind.{ElementKind}
+use Rattle.graph_tables.proofs.RecordFacts.{drop_cell}
 
 module _ (of : ElementKind) (at : Place) (n place : ℕ) (cells : List (List ℕ)) (h : Heading) (start : Result Heading TableFault)
     (inside : place < length cells) (was : columns_from of at n (drop place cells) h ≡ start) where

@@ -1,5 +1,5 @@
 -- The columns of a table, by its header.
-use Rattle.std.specs.Prelude.{ℕ, ◌+◌, ◌==◌, ◌&&◌, ◌||◌, Bool, false, if◌then◌else◌, List, [], ◌∷◌, ◌++◌, codes, slice_get, is_some, Option, Some, None, drop, Result, Ok, Err}
+use Rattle.std.specs.Prelude.{ℕ, ◌+◌, ◌==◌, ◌&&◌, ◌||◌, Bool, false, if◌then◌else◌, List, [], ◌∷◌, ◌++◌, codes, slice_get, slice_index_or, is_some, Option, Some, None, drop, Result, Ok, Err}
 use Rattle.std.specs.Option.{option_map}
 use Rattle.std.specs.List.{after_first, before_first}
 use Rattle.std.specs.Str.{bytes_eq}
@@ -12,8 +12,12 @@ use Rattle.graph_tables.specs.Properties.{Property, kind_eq, placed}
 use Rattle.graph_tables.specs.declared.faults.Place.{Place}
 use Rattle.graph_tables.specs.declared.faults.TableFault.{TableFault}
 use Rattle.graph_tables.specs.declared.faults.TableKind.TheVariants as kind
-use Rattle.graph_tables.specs.declared.manifest.ElementKind.{ElementKind}
-use Rattle.graph_tables.specs.declared.manifest.ElementKind.TheVariants as element
+use Rattle.graph_tables.specs.declared.element_kind.ElementKind.{ElementKind}
+use Rattle.graph_tables.specs.declared.element_kind.ElementKind.TheVariants as element
+
+-- the cell at a place; where there is none, an empty one
+abbrev pub cell_at : List (List ℕ) → ℕ → List ℕ
+cell_at cells place = slice_index_or cells place []
 
 abbrev pub is_colon : ℕ → Bool
 is_colon b = b == 58

@@ -3,11 +3,11 @@ use Rattle.std.specs.Prelude.{◌≡◌, ℕ, ◌+◌, ◌<◌, ◌≤◌, ◌^�
 use Rattle.std.specs.List.{AllByRecursion}
 use Rattle.element_store.specs.Elements.{Element, Filled}
 use Rattle.graph_tables.specs.Graph.{Edge, EndsIn, IsWhole, PropertyGraph, cells_made}
-use Rattle.graph_tables.specs.Rows.{most_cells, most_edges, most_vertices}
+use Rattle.graph_tables.specs.Limits.{most_cells, most_edges, most_vertices}
 use Rattle.graph_tables.specs.declared.loading.Ends.{Ends}
 use Rattle.graph_tables.specs.declared.loading.Loading.{Loading}
-use Rattle.graph_tables.specs.declared.manifest.ElementKind.{ElementKind}
-use Rattle.graph_tables.specs.declared.manifest.ElementKind.TheVariants as element
+use Rattle.graph_tables.specs.declared.element_kind.ElementKind.{ElementKind}
+use Rattle.graph_tables.specs.declared.element_kind.ElementKind.TheVariants as element
 
 -- edges, from what they have besides their ends and the ends beside them
 abbrev pub edges_with : List Element → List Ends → List Edge

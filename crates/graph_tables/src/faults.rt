@@ -67,14 +67,14 @@ pub struct TableFault {
 
 /// A record of a table.
 #[derive(Clone, Copy)]
-pub(crate) struct Place {
-    pub(crate) file: u32,
-    pub(crate) row: u32,
+pub struct Place {
+    pub file: u32,
+    pub row: u32,
 }
 
 impl Place {
     /// A fault in a column of the record; column 0 stands for the whole record.
-    pub(crate) fn fault(self, column: u32, kind: TableKind) -> TableFault
+    pub fn fault(self, column: u32, kind: TableKind) -> TableFault
         ensures { result ≡ fault_at self column kind }
     {
         TableFault {
@@ -87,7 +87,7 @@ impl Place {
 }
 
 /// A fault of a whole file.
-pub(crate) fn file_fault(file: u32, kind: TableKind) -> TableFault
+pub fn file_fault(file: u32, kind: TableKind) -> TableFault
     ensures { result ≡ fault_of file kind }
 {
     TableFault {

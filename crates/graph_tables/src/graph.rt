@@ -39,7 +39,7 @@ impl Model for Graph {
 
 impl Graph {
     /// The graph of what was loaded.
-    pub(crate) fn new(alloc: Global, loaded: Loading) -> Graph
+    pub fn new(alloc: Global, loaded: Loading) -> Graph
         requires { IsSound loaded }
         ensures { result ≡ graph_of loaded }
     {

@@ -1,18 +1,18 @@
 //! A table's header.
 ghost use Rattle.std.specs.Prelude.{◌≡◌, ◌<◌, ◌≤◌, ◌+◌, ◌-◌, ◌^◌, drop, length, position, slice_get, IfOk, MatchBool, MatchOption, None, Some};
 ghost use Rattle.std.specs.List.{after_first, before_first};
-ghost use Rattle.std.specs.Option.{option_copied, option_map};
+ghost use Rattle.std.specs.Option.{option_map};
 ghost use Rattle.csv.specs.Records.{fields_of};
 ghost use Rattle.graph_tables.specs.Faults.{Gives};
 ghost use Rattle.graph_tables.specs.Headers as header;
 ghost use Rattle.graph_tables.specs.Headers.{columns_from, heading_of, is_colon, key_columns, keys_first, with_column};
 ghost use Rattle.graph_tables.specs.Properties.{kind_eq, placed};
-ghost use Rattle.graph_tables.specs.Rows as rows;
 
+use crate::element_kind::{ElementKind, key_count};
 use crate::faults::{Place, TableFault, TableKind};
-use crate::manifest::ElementKind;
 use crate::names::{behind, is_name};
 use crate::properties::Properties;
+use crate::record_cells::{cell, find_cell};
 use adfs_base::{Kind, NoMemory};
 use csv::ByteRecord;
 use element_store::Columns;
@@ -20,7 +20,7 @@ use std::alloc::Global;
 
 /// A cell of a header.
 #[derive(Clone, Copy)]
-pub(crate) struct HeaderCell<'a> {
+struct HeaderCell<'a> {
     name: &'a [u8],
     kind: Kind,
 }
@@ -75,33 +75,6 @@ fn is_same_kind(a: Kind, b: Kind) -> bool
     ensures { result ≡ kind_eq a b }
 {
     a == b
-}
-
-/// The cell of a record at a place, if it has one.
-fn find_cell(row: &ByteRecord, place: usize) -> Option<&[u8]>
-    ensures { option_copied result ≡ slice_get (fields_of row.now) place }
-{
-    row.get(place)
-}
-
-/// The cell of a record at a place; where it has none, an empty one.
-pub(crate) fn cell(row: &ByteRecord, place: usize) -> &[u8]
-    ensures { result.now ≡ rows.cell_at (fields_of row.now) place }
-{
-    match find_cell(row, place) {
-        Some(cell) => cell,
-        None => &[],
-    }
-}
-
-/// How many columns of a table are no properties.
-pub(crate) fn key_count(of: ElementKind) -> usize
-    ensures { result ≡ key_columns of }
-{
-    match of {
-        ElementKind::Vertex => 1,
-        ElementKind::Edge => 3,
-    }
 }
 
 fn is_key_name(of: ElementKind, name: &[u8]) -> bool
@@ -225,7 +198,7 @@ fn take_columns(
 }
 
 /// The columns of a header, whose properties are added to those of the tables before it.
-pub(crate) fn heading(
+pub fn heading(
     alloc: Global,
     of: ElementKind,
     at: Place,

@@ -1,33 +1,32 @@
-//! Property graphs from tables.
-//!
-//! A manifest names tables of vertices and of edges, which are read with their types into one graph
-//! (`load_graph`), or the first fault in order of manifest line, record and column is told. What the graph
-//! or the fault is stands in `specs/Loaded.antt`, as a fold over the lists of tables, records and cells;
-//! nothing there knows how the bytes are read.
+//! Property graphs, and what the front of their files says: the manifest and the headers of tables.
 //!
 //! A contract sees a `Graph` as a `PropertyGraph` (`specs/Graph.antt`): the vertices and the edges in the
-//! order of their numbers, the texts, and the properties of either kind. Each edge ends at vertices. Right
-//! after `load_graph` each label and each value also means something under the texts (`IsWhole`), which
-//! stays so as long as the texts that `Graph::detach` gives away are kept beside the graph.
+//! order of their numbers, the texts, and the properties of either kind. Each edge ends at vertices. A graph
+//! that was loaded (`graph_loading`) also has a meaning for each label and each value under its texts
+//! (`IsWhole`), which stays so as long as the texts that `Graph::detach` gives away are kept beside it.
 //!
-//! A store's own faults come only where its counts rose in this call, and want of memory is an answer of
-//! its own. No call but `load_graph` takes memory.
+//! `manifest` and `heading` say exactly which tables a manifest names and which columns a header has
+//! (`specs/Manifest.antt`, `specs/Headers.antt`), or the first fault. `Loading` is a graph that is being
+//! loaded, as plain data; what it keeps from record to record is `IsSound` (`specs/Loading.antt`).
+//!
+//! Want of memory is an answer of its own. Of `Graph`'s calls only `choose_vertices` and `choose_edges` take memory.
 #![tactic(auto)]
 
+mod element_kind;
 mod faults;
 mod graph;
 mod header;
-mod load;
 mod loading;
 mod manifest;
 mod names;
 mod properties;
-mod rows;
+mod record_cells;
 
-pub use faults::{Quantity, TableFault, TableKind};
+pub use element_kind::{ElementKind, key_count};
+pub use faults::{Place, Quantity, TableFault, TableKind, file_fault};
 pub use graph::Graph;
-pub use load::load_graph;
-pub use properties::Schema;
-
-#[cfg(test)]
-mod tests;
+pub use header::heading;
+pub use loading::{Ends, Loading};
+pub use manifest::{TableLine, read_manifest};
+pub use properties::{Properties, Schema};
+pub use record_cells::cell;

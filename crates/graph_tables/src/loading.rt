@@ -10,25 +10,25 @@ use value_text::Texts;
 
 /// The numbers of the vertices at the ends of an edge.
 #[derive(Clone, Copy)]
-pub(crate) struct Ends {
-    pub(crate) source: u32,
-    pub(crate) target: u32,
+pub struct Ends {
+    pub source: u32,
+    pub target: u32,
 }
 
 /// What the tables so far gave. The ends stand beside the edges, in the order of their numbers.
 #[derive(Drop)]
-pub(crate) struct Loading {
-    pub(crate) vertices: Elements,
-    pub(crate) edges: Elements,
-    pub(crate) ends: Vec<Ends>,
-    pub(crate) texts: Texts,
-    pub(crate) vertex_properties: Properties,
-    pub(crate) edge_properties: Properties,
+pub struct Loading {
+    pub vertices: Elements,
+    pub edges: Elements,
+    pub ends: Vec<Ends>,
+    pub texts: Texts,
+    pub vertex_properties: Properties,
+    pub edge_properties: Properties,
 }
 
 impl Loading {
     /// Before the first table.
-    pub(crate) fn new(alloc: Global) -> Loading
+    pub fn new(alloc: Global) -> Loading
         ensures graph { graph_of result ≡ empty_graph }
         ensures sound { IsSound result }
         ensures tables { tables_in result ≡ 0 }

@@ -10,7 +10,7 @@ use std::marker::Model;
 
 /// Properties by their numbers, seen as the list of their names and kinds.
 #[derive(Drop)]
-pub(crate) struct Properties {
+pub struct Properties {
     kinds: IndexMap<Vec<u8>, Kind>,
 }
 
@@ -35,7 +35,7 @@ fn copied(alloc: Global, text: &[u8]) -> Result<Vec<u8>, NoMemory>
 
 impl Properties {
     /// No properties.
-    pub(crate) fn new(alloc: Global) -> Properties
+    pub fn new(alloc: Global) -> Properties
         ensures { result ≡ [] }
     {
         Properties {

@@ -32,6 +32,3 @@ pub use owner::{MachineList, Owner};
 pub use owner_file::read_owners;
 pub use part::Part;
 pub use splitting::split;
-
-#[cfg(test)]
-mod tests;

@@ -1,4 +1,5 @@
 pub mod Days
+pub mod Filled
 pub mod Numerals
 pub mod Orders
 pub mod Places

@@ -1,11 +1,13 @@
 -- The places of texts among the keys of a set that holds them.
-use Rattle.std.proofs.Common.{◌≡◌, ◌∙◌, sym, ap, refl, arith, ◌≤◌, ◌+◌, ℕ, Bool, true, false, cond, not, ◌||◌, List, [], ◌∷◌, ◌++◌, length, length-append, map, Some, None, position, nat_lt}
+use Rattle.std.proofs.Common.{◌≡◌, ◌∙◌, sym, ap, refl, arith, ◌<◌, ◌≤◌, ◌+◌, ℕ, Bool, true, false, cond, not, ◌||◌, List, [], ◌∷◌, ◌++◌, length, length-append, map, Some, None, Result, Ok, Err, IfOk, OnOk, OnErr, take, position, nat_lt}
+use Rattle.adfs_base.specs.declared.name.NoMemory.{NoMemory}
+use Rattle.std.proofs.lemmas.Bool.Decides.{nat_tests}
 use Rattle.std.proofs.lemmas.Cmp.{nat_list_eq_equiv}
-use Rattle.std.proofs.lemmas.List.{map-append, length-map}
+use Rattle.std.proofs.lemmas.List.{length-map, map-append, take-append-le, take_all}
 use Rattle.std.proofs.lemmas.Map.Keys.{IsDistinct-push}
 use Rattle.std.specs.List.{IsDistinct, list_any, position_or_len}
 use Rattle.std.specs.Str.{bytes_eq}
-use Rattle.value_text.specs.Texts.{number_of, with_text}
+use Rattle.value_text.specs.Texts.{Kept, number_of, with_text}
 
 -- a text's place among the keys is its number among their texts
 pub number_map : {K : Type 0} (f : K → List ℕ) (text : List ℕ) (keys : List K) → position_or_len (λ k. bytes_eq text (f k)) keys ≡ number_of (map f keys) text
@@ -56,3 +58,71 @@ length-with_text texts text = by (list_any (bytes_eq text) texts)
     by : (b : Bool) → length (cond b texts (texts ++ text ∷ [])) ≤ length texts + 1
     by true = omega arith
     by false = omega (arith, length-append texts (text ∷ []))
+
+any_before : (p : List ℕ → Bool) (texts : List (List ℕ)) → position_or_len p texts < length texts → list_any p texts ≡ true
+any_before p [] less = absurd (omega arith)
+any_before p (t ∷ ts) less = by (p t) refl less (any_before p ts)
+  where
+    by : (b : Bool) → p t ≡ b → cond (not b) (1 + position_or_len p ts) 0 < length (t ∷ ts) → (position_or_len p ts < length ts → list_any p ts ≡ true) → list_any p (t ∷ ts) ≡ true
+    by true e h more = rw e refl
+    by false e h more = rw e (more (omega arith))
+
+-- a text that has a place is one of the texts
+pub there : (texts : List (List ℕ)) (text : List ℕ) (n : ℕ) → Some n ≡ position (bytes_eq text) texts → (n ≡ number_of texts text) × (texts ≡ with_text texts text)
+there texts text n e = by (nat_lt (number_of texts text) (length texts)) refl (sym e)
+  where
+    by : (b : Bool) → nat_lt (number_of texts text) (length texts) ≡ b → cond b (Some (number_of texts text)) None ≡ Some n → (n ≡ number_of texts text) × (texts ≡ with_text texts text)
+    by true t f = let less : number_of texts text < length texts = grind (arith, nat_tests) in (cc f, rw (any_before (bytes_eq text) texts less) refl)
+    by false t f = cc f
+
+place_most : (p : List ℕ → Bool) (texts : List (List ℕ)) → position_or_len p texts ≤ length texts
+place_most p [] = omega arith
+place_most p (t ∷ ts) = by (p t) (place_most p ts)
+  where
+    by : (b : Bool) → position_or_len p ts ≤ length ts → cond (not b) (1 + position_or_len p ts) 0 ≤ length (t ∷ ts)
+    by true h = omega arith
+    by false h = omega arith
+
+place_before : (p : List ℕ → Bool) (texts : List (List ℕ)) → list_any p texts ≡ true → position_or_len p texts < length texts
+place_before p [] any = cc any
+place_before p (t ∷ ts) any = by (p t) refl (place_before p ts) any
+  where
+    by : (b : Bool) → p t ≡ b → (list_any p ts ≡ true → position_or_len p ts < length ts) → (b || list_any p ts) ≡ true → position_or_len p (t ∷ ts) < length (t ∷ ts)
+    by true e more h = rw e (omega arith)
+    by false e more h = rw e (omega (arith, more h))
+
+-- What holds of the texts once a text is one of them.
+pub record Adds (old new : List (List ℕ)) (n : ℕ) : Type 0 where
+  pub within : n < length new
+  pub kept : Kept old new
+  pub room : length new ≤ length old + 1
+
+adds_text : (texts : List (List ℕ)) (text : List ℕ) → Adds texts (with_text texts text) (number_of texts text)
+adds_text texts text = by (list_any (bytes_eq text) texts) refl
+  where
+    by : (b : Bool) → list_any (bytes_eq text) texts ≡ b → Adds texts (cond b texts (texts ++ text ∷ [])) (number_of texts text)
+    by true e = record { within = place_before (bytes_eq text) texts e; kept = take_all (length texts) texts (omega arith); room = omega arith }
+    by false e = record {
+      within = omega (arith, place_most (bytes_eq text) texts, length-append texts (text ∷ []));
+      kept = take-append-le (length texts) texts (text ∷ []) (omega arith) ∙ take_all (length texts) texts (omega arith);
+      room = omega (arith, length-append texts (text ∷ []));
+    }
+
+pub adds : (old new : List (List ℕ)) (text : List ℕ) (n : ℕ) → n ≡ number_of old text → new ≡ with_text old text → Adds old new n
+adds old new text n number texts = rw (number, texts) (adds_text old text)
+
+-- What a call that adds a text answers and leaves.
+pub record Answers (old new : List (List ℕ)) (text : List ℕ) (r : Result ℕ NoMemory) : Type 0 where
+  pub number : IfOk r (λ n. n ≡ number_of old text)
+  pub texts : IfOk r (λ n. new ≡ with_text old text)
+  pub within : IfOk r (λ n. n < length new)
+  pub kept : Kept old new
+  pub err : OnErr r (new ≡ old)
+  pub room : length new ≤ length old + 1
+
+pub answers : (old new : List (List ℕ)) (text : List ℕ) (r : Result ℕ NoMemory) → IfOk r (λ n. n ≡ number_of old text) → OnOk r (new ≡ with_text old text) → OnErr r (new ≡ old) → Answers old new text r
+answers old new text (Ok n) number texts err =
+    let a = adds old new text n number texts in
+    record { number = number; texts = texts; within = a.within; kept = a.kept; err = tt; room = a.room }
+answers old new text (Err e) number texts err =
+    record { number = tt; texts = tt; within = tt; kept = rw err (take_all (length old) old (omega arith)); err = err; room = rw err (omega arith) }

@@ -1,11 +1,12 @@
 //! What cells say.
-ghost use Rattle.std.specs.Prelude.{◌≡◌, ◌≤◌, ◌+◌, ◌<◌, ◌-◌, ◌^◌, IfOk, OnErr, length};
+ghost use Rattle.std.specs.Prelude.{◌≡◌, ◌≤◌, ◌+◌, ◌<◌, ◌-◌, ◌^◌, ℕ, List, IfOk, OnErr, length};
 ghost use Rattle.std.specs.Char.{is_ascii_digit};
 ghost use Rattle.std.specs.List.{list_all};
 ghost use Rattle.std.specs.Result.{result_ok};
 ghost use Rattle.std.specs.Str.{is_utf8};
 ghost use Rattle.std.specs.Str.Parse.{without_leading_sign};
-ghost use Rattle.value_text.specs.Cells.{Gives, bool_cell, cell_value};
+ghost use Rattle.value_text.specs.Cells.{Gives, as_bool, as_date, as_int, as_text, bool_cell, cell_value};
+ghost use Rattle.value_text.specs.Dates.{date_cell};
 ghost use Rattle.value_text.specs.Numbers.{int_cell, is_numeral};
 ghost use Rattle.value_text.specs.Texts.{Kept};
 ghost use Rattle.value_text.specs.Valid.{IsValid};
@@ -99,6 +100,39 @@ fn read_bool(cell: &[u8]) -> Result<bool, CellFault>
     Err(CellFault::BadBool)
 }
 
+// The value of a cell of whole numbers.
+fn int_value(cell: &[u8]) -> Result<Value, CellFault>
+    ensures value { (texts : List (List ℕ)) → Gives result texts (as_int texts (int_cell cell.now)) }
+    ensures valid { (texts : List (List ℕ)) → IfOk result (IsValid texts) }
+{
+    match read_key(cell) {
+        Ok(number) => Ok(Value::Int(number)),
+        Err(fault) => Err(fault),
+    }
+}
+
+// The value of a cell of truth values.
+fn bool_value(cell: &[u8]) -> Result<Value, CellFault>
+    ensures value { (texts : List (List ℕ)) → Gives result texts (as_bool texts (bool_cell cell.now)) }
+    ensures valid { (texts : List (List ℕ)) → IfOk result (IsValid texts) }
+{
+    match read_bool(cell) {
+        Ok(truth) => Ok(Value::Bool(truth)),
+        Err(fault) => Err(fault),
+    }
+}
+
+// The value of a cell of dates.
+fn date_value(cell: &[u8]) -> Result<Value, CellFault>
+    ensures value { (texts : List (List ℕ)) → Gives result texts (as_date texts (date_cell cell.now)) }
+    ensures valid { (texts : List (List ℕ)) → IfOk result (IsValid texts) }
+{
+    match read_date(cell) {
+        Some(day) => Ok(Value::Date(day)),
+        None => Err(CellFault::BadDate),
+    }
+}
+
 // Whether the bytes are UTF-8.
 fn is_text(bytes: &[u8]) -> bool
     ensures { result ≡ is_utf8 bytes.now }
@@ -106,6 +140,24 @@ fn is_text(bytes: &[u8]) -> bool
     match str::from_utf8(bytes) {
         Ok(_) => true,
         Err(_) => false,
+    }
+}
+
+// The value of a cell of texts, which becomes one of `texts`.
+fn text_value(cell: &[u8], texts: &mut Texts) -> Result<Value, CellFault>
+    requires { length texts.old < 2 ^ 32 - 1 }
+    ensures value { Gives result texts.new (as_text texts.old cell.now) }
+    ensures valid { IfOk result (IsValid texts.new) }
+    ensures err { OnErr result (texts.new ≡ texts.old) }
+    ensures kept { Kept texts.old texts.new }
+    ensures room { length texts.new ≤ length texts.old + 1 }
+{
+    if !is_text(cell) {
+        return Err(CellFault::BadText);
+    }
+    match texts.add(cell) {
+        Ok(number) => Ok(Value::Text(number)),
+        Err(_) => Err(CellFault::NoMemory),
     }
 }
 
@@ -125,20 +177,9 @@ pub fn read_value(kind: Kind, cell: &[u8], texts: &mut Texts) -> Result<Value, C
         return Ok(Value::Null);
     }
     match kind {
-        Kind::Int => Ok(Value::Int(read_key(cell)?)),
-        Kind::Bool => Ok(Value::Bool(read_bool(cell)?)),
-        Kind::Date => match read_date(cell) {
-            Some(day) => Ok(Value::Date(day)),
-            None => Err(CellFault::BadDate),
-        },
-        Kind::Text => {
-            if !is_text(cell) {
-                return Err(CellFault::BadText);
-            }
-            match texts.add(cell) {
-                Ok(number) => Ok(Value::Text(number)),
-                Err(_) => Err(CellFault::NoMemory),
-            }
-        }
+        Kind::Int => int_value(cell),
+        Kind::Bool => bool_value(cell),
+        Kind::Date => date_value(cell),
+        Kind::Text => text_value(cell, texts),
     }
 }

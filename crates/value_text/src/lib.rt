@@ -25,6 +25,3 @@ pub use dates::read_date;
 pub use order::compare;
 pub use shown::{put_text, put_value};
 pub use texts::Texts;
-
-#[cfg(test)]
-mod tests;

@@ -16,19 +16,45 @@ fn has_special(text: &[u8]) -> bool
         .any(|b| *b == b',' || *b == b'"' || *b == b'\r' || *b == b'\n')
 }
 
+// Appends bytes, or none.
+fn append_bytes(bytes: &[u8], out: &mut Vec<u8>) -> Result<(), NoMemory>
+    ensures ok { OnOk result (Appends out.old.items out.new.items bytes.now) }
+    ensures err { OnErr result (out.new.items ≡ out.old.items) }
+{
+    out.extend_from_slice(bytes)?;
+    Ok(())
+}
+
+// Appends a byte of a text, doubled where it is a quote.
+fn append_byte(byte: u8, out: &mut Vec<u8>) -> Result<(), NoMemory>
+    ensures ok { OnOk result (Appends out.old.items out.new.items (doubled byte)) }
+    ensures err { OnErr result (out.new.items ≡ out.old.items) }
+{
+    if byte == b'"' {
+        return append_bytes(b"\"\"", out);
+    }
+    out.push(byte)?;
+    Ok(())
+}
+
 // Appends a text with its quotes doubled.
 fn append_doubled(text: &[u8], out: &mut Vec<u8>) -> Result<(), NoMemory>
     ensures ok { OnOk result (Appends out.old.items out.new.items (flat_map doubled text.now)) }
     ensures err { OnErr result (Grows out.old.items out.new.items) }
 {
-    for b in text {
-        if *b == b'"' {
-            out.extend_from_slice(b"\"\"")?;
-        } else {
-            out.push(*b)?;
-        }
+    for byte in text {
+        append_byte(*byte, out)?;
     }
     Ok(())
+}
+
+// Appends a text behind a quote.
+fn append_opened(text: &[u8], out: &mut Vec<u8>) -> Result<(), NoMemory>
+    ensures ok { OnOk result (Appends out.old.items out.new.items (34 ∷ flat_map doubled text.now)) }
+    ensures err { OnErr result (Grows out.old.items out.new.items) }
+{
+    append_bytes(b"\"", out)?;
+    append_doubled(text, out)
 }
 
 // Appends a text in quotes.
@@ -36,10 +62,8 @@ fn append_quoted(text: &[u8], out: &mut Vec<u8>) -> Result<(), NoMemory>
     ensures ok { OnOk result (Appends out.old.items out.new.items (34 ∷ flat_map doubled text.now ++ 34 ∷ [])) }
     ensures err { OnErr result (Grows out.old.items out.new.items) }
 {
-    out.push(b'"')?;
-    append_doubled(text, out)?;
-    out.push(b'"')?;
-    Ok(())
+    append_opened(text, out)?;
+    append_bytes(b"\"", out)
 }
 
 // Appends a text as a value.
@@ -61,15 +85,6 @@ fn append_int(number: i64, out: &mut Vec<u8>) -> Result<(), NoMemory>
 {
     let mut digits = itoa::Buffer::new();
     out.extend_from_slice(digits.format(number).as_bytes())?;
-    Ok(())
-}
-
-// Appends bytes.
-fn append_bytes(bytes: &[u8], out: &mut Vec<u8>) -> Result<(), NoMemory>
-    ensures ok { OnOk result (Appends out.old.items out.new.items bytes.now) }
-    ensures err { OnErr result (Grows out.old.items out.new.items) }
-{
-    out.extend_from_slice(bytes)?;
     Ok(())
 }
 

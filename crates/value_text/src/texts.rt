@@ -1,5 +1,5 @@
 //! The distinct texts of a graph.
-ghost use Rattle.std.specs.Prelude.{◌≡◌, ◌≤◌, ◌+◌, ◌<◌, ◌-◌, ◌^◌, [], IfOk, IfSome, OnErr, length, position};
+ghost use Rattle.std.specs.Prelude.{◌≡◌, ◌≤◌, ◌+◌, ◌<◌, ◌-◌, ◌^◌, [], IfOk, IfSome, OnErr, OnOk, length, position};
 ghost use Rattle.std.specs.List.{IsDistinct};
 ghost use Rattle.std.specs.Str.{bytes_eq};
 ghost use Rattle.value_text.specs.Texts.{Kept, number_of, with_text, text_at};
@@ -78,6 +78,18 @@ impl Texts {
         }
     }
 
+    // The number of a text, of which a copy is made.
+    fn append(&mut self, text: &[u8]) -> Result<u32, NoMemory>
+        requires { length self.old < 2 ^ 32 - 1 }
+        ensures number { IfOk result (λ number. number ≡ number_of self.old text.now) }
+        ensures texts { OnOk result (self.new ≡ with_text self.old text.now) }
+        ensures err { OnErr result (self.new ≡ self.old) }
+    {
+        let copy = copied(self.alloc, text)?;
+        let (number, _) = self.set.insert_full(copy)?;
+        Ok(number as u32)
+    }
+
     /// The number of a text, which goes last where it is new. The others keep their numbers.
     ///
     /// After `NoMemory` the texts are as before.
@@ -90,11 +102,9 @@ impl Texts {
         ensures err { OnErr result (self.new ≡ self.old) }
         ensures room { length self.new ≤ length self.old + 1 }
     {
-        if let Some(number) = self.set.get_index_of(text) {
-            return Ok(number as u32);
+        match self.find(text) {
+            Some(number) => Ok(number),
+            None => self.append(text),
         }
-        let copy = copied(self.alloc, text)?;
-        let (number, _) = self.set.insert_full(copy)?;
-        Ok(number as u32)
     }
 }

@@ -1,6 +1,6 @@
 use Rattle.std.proofs.Common.{arith, inl}
 use Rattle.std.proofs.lemmas.Result.{err_from_is_err_and}
-use Rattle.graph_tables.specs.Loaded.{loaded}
+use Rattle.graph_loading.specs.Loaded.{loaded}
 use Rattle.adfs_top.specs.Faults.{with_status}
 use Rattle.adfs_top.specs.Outcome.{work_of_graph}
 use Rattle.adfs_top.proofs.Steps.{cause_earlier, goes_on_told, of_run}

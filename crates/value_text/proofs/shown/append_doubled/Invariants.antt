@@ -3,5 +3,5 @@ use Rattle.std.specs.List.{flat_map}
 use Rattle.value_text.specs.Shown.{doubled}
 use Rattle.value_text.proofs.shown.append_doubled.Given as goal
 
-abbrev pub invariant-loop-b : goal.invariant-loop-b
-invariant-loop-b l = l.out.items ≡ l.initial.out.items ++ flat_map doubled (take l.b-index l.text)
+abbrev pub invariant-loop-byte : goal.invariant-loop-byte
+invariant-loop-byte l = l.out.items ≡ l.initial.out.items ++ flat_map doubled (take l.byte-index l.text)

@@ -1,4 +1,4 @@
-use Rattle.graph_tables.proofs.SoundFacts.{readable}
+use Rattle.graph_tables.proofs.GraphFacts.{readable}
 use Rattle.graph_tables.proofs.graph.Graph.new.Goals as goal
 
 pub invariant_of-result : goal.invariant_of-result

@@ -1,30 +1,14 @@
-use Rattle.std.proofs.Common.{◌∙◌, sym, arith, refl, ◌<◌, ◌^◌, ◌-◌, length, map}
-use Rattle.value_text.proofs.Places.{IsDistinct-with_text, any_map, found, inserted, length-with_text, number_map}
+use Rattle.std.proofs.Common.{refl}
+use Rattle.value_text.proofs.Places.{adds, answers, there}
 use Rattle.value_text.proofs.texts.Texts.add.Goals as goal
 
-pub returns-in-Some-clause-number : goal.returns-in-Some-clause-number
-returns-in-Some-clause-number c =
-    rw (← c.self.view_is) (found (λ k. k.items) c.args.text.now c.self.inside.set.keys c.in-Some.number (sym c.in-Some.ensures.index))
+pub returns-in-Some : goal.returns-in-Some
+returns-in-Some c =
+    let t = there c.args.self.now c.args.text.now c.in-Some.number c.in-Some.ensures.place in
+    let a = adds c.args.self.now c.args.self.now c.args.text.now c.in-Some.number t.0 t.1 in
+    record { number = t.0; texts = t.1; within = a.within; kept = a.kept; err = tt; room = a.room }
 
-pub returns-in-Some-clause-texts : goal.returns-in-Some-clause-texts
-returns-in-Some-clause-texts c =
-    rw (← c.self.view_is, sym (any_map (λ k. k.items) c.args.text.now c.self.inside.set.keys) ∙ sym c.in-Some.ensures.found) refl
-
-pub returns-clause-number : goal.returns-clause-number
-returns-clause-number c =
-    let keys = c.self.inside.set.keys in
-    rw (← c.self.view_is, ← c.in_ok-copy.ensures) (c.in_ok-number.ensures.index ∙ number_map (λ k. k.items) c.in_ok-copy.copy.items keys)
-
-pub returns-clause-texts : goal.returns-clause-texts
-returns-clause-texts c =
-    let keys = c.self.inside.set.keys in
-    rw (← c.self.view_is, ← c.in_ok-copy.ensures, c.in_ok-number.ensures.keys) (inserted (λ k. k.items) c.in_ok-copy.copy keys)
-
-pub invariant_of-self-2 : goal.invariant_of-self-2
-invariant_of-self-2 c =
-    let keys = c.self.inside.set.keys in
-    let old = map (λ k. k.items) keys in
-    let e = inserted (λ k. k.items) c.in_ok-copy.copy keys in
-    let few : length old < 2 ^ 32 - 1 = rw c.self.view_is c.requires in
-    rw (c.in_ok-number.ensures.keys, e)
-    (IsDistinct-with_text old c.in_ok-copy.copy.items c.self.invariant.0, omega (arith, few, length-with_text old c.in_ok-copy.copy.items))
+pub returns-in-None : goal.returns-in-None
+returns-in-None c =
+    let a = answers c.args.self.now c.append.new.self c.args.text.now c.append.result c.append.ensures.number c.append.ensures.texts c.append.ensures.err in
+    record { number = a.number; texts = a.texts; within = a.within; kept = a.kept; err = a.err; room = a.room }

@@ -1,0 +1,6 @@
+pub mod RowLaws
+pub mod SoundFacts
+pub mod LoadFacts
+pub mod StoreFacts
+pub mod BegunFacts
+pub mod ReachFacts

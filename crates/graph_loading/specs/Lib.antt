@@ -1,0 +1,4 @@
+pub mod Loaded
+pub mod Reaching
+pub mod Rows
+pub mod Steps
