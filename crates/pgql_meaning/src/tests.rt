@@ -3,7 +3,8 @@ ghost use Rattle.std.specs.Prelude.{◌<◌, ◌^◌, length};
 
 use super::*;
 use adfs_base::{MemStore, Name, NoMemory, Value};
-use graph_tables::{Graph, Schema, load_graph};
+use graph_loading::load_graph;
+use graph_tables::{Graph, Schema};
 use pgql_syntax::parse;
 use pgql_tree::Ast;
 use std::alloc::Global;
