@@ -127,7 +127,10 @@ fn parts_by_number(rt: HostRuntime) -> Result<(), Fail> {
         1, 2, 25, 12, 2, 0, 0, 10, 0, 0, 2020, 11, 0, 0, 2021, // the second, in machine 1
         3, 4, 41, 14, 3, 1, 2018, 14, 3, 1, 2018, // the fourth, with its loop in both lists
     ];
-    assert_eq!(rt; told(rt.alloc(), &Owner::Modulo, 2)?.as_slice(), due.as_slice());
+    assert_eq!(rt;
+        told(rt.alloc(), &Owner::Modulo, 2)?.as_slice(),
+        due.as_slice()
+    );
     assert_eq!(rt;
         told_as_listed(rt.alloc(), "1 0\n2 1\n3 0\n4 1\n", 2)?.as_slice(),
         due.as_slice()
@@ -143,7 +146,10 @@ fn parts_in_blocks(rt: HostRuntime) -> Result<(), Fail> {
         2, 3, 0, 13, 0, 0, 2019, 12, 1, 0, 0, // the third, in machine 1
         3, 4, 41, 14, 3, 1, 2018, 14, 3, 1, 2018, // the fourth
     ];
-    assert_eq!(rt; told(rt.alloc(), &Owner::Block, 2)?.as_slice(), due.as_slice());
+    assert_eq!(rt;
+        told(rt.alloc(), &Owner::Block, 2)?.as_slice(),
+        due.as_slice()
+    );
     Ok(())
 }
 

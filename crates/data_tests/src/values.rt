@@ -51,7 +51,10 @@ fn cells_are_written_back(rt: HostRuntime) -> Result<(), Fail> {
         (Kind::Date, "0999-10-09", "x,0999-10-09"),
         (Kind::Date, "", "x,"),
     ] {
-        assert_eq!(rt; written(rt.alloc(), kind, cell)?.as_slice(), text.as_bytes());
+        assert_eq!(rt;
+            written(rt.alloc(), kind, cell)?.as_slice(),
+            text.as_bytes()
+        );
     }
     Ok(())
 }
