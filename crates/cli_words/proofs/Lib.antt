@@ -14,3 +14,4 @@ pub mod Takings
 pub mod TakingSteps
 pub mod Turns
 pub mod WordsInTurn
+pub mod RulesAdded

@@ -36,6 +36,3 @@ pub use laws::refusals_come_first;
 pub use options::{Files, Options};
 pub use read::{UsageFault, read_words};
 pub use usage::usage_text;
-
-#[cfg(test)]
-mod tests;

@@ -25,6 +25,30 @@ pub(crate) fn command_line<'a>(
     with_file_words(alloc, line, command.file_words())
 }
 
+// The line with an option of one value.
+fn with_option<'a>(
+    alloc: Global,
+    line: clap::Command<'a>,
+    setting: Setting,
+) -> Result<clap::Command<'a>, NoMemory>
+    ensures { IfOk result (λ new. app_of new ≡ with_rule (app_of line.entry) (option_rule setting)) }
+{
+    let name: &'a str = setting.long_name();
+    Ok(line.arg(Arg::new(alloc, name).long(name))?)
+}
+
+// The line with a word in its place.
+fn with_file_word<'a>(
+    alloc: Global,
+    line: clap::Command<'a>,
+    file: FileWord,
+) -> Result<clap::Command<'a>, NoMemory>
+    ensures { IfOk result (λ new. app_of new ≡ with_rule (app_of line.entry) (file_rule file)) }
+{
+    let name: &'a str = file.name();
+    Ok(line.arg(Arg::new(alloc, name))?)
+}
+
 // The line with an option of one value for each of these.
 fn with_options<'a>(
     alloc: Global,
@@ -35,8 +59,7 @@ fn with_options<'a>(
 {
     let mut line = line;
     for setting in settings {
-        let name: &'a str = setting.long_name();
-        line = line.arg(Arg::new(alloc, name).long(name))?;
+        line = with_option(alloc, line, *setting)?;
     }
     Ok(line)
 }
@@ -51,8 +74,7 @@ fn with_file_words<'a>(
 {
     let mut line = line;
     for file in files {
-        let name: &'a str = file.name();
-        line = line.arg(Arg::new(alloc, name))?;
+        line = with_file_word(alloc, line, *file)?;
     }
     Ok(line)
 }

@@ -1,4 +1,4 @@
-ghost use Rattle.std.specs.Prelude.{◌≡◌, ◌<◌, ◌+◌, IfOk, IfSome, is_some, position};
+ghost use Rattle.std.specs.Prelude.{◌≡◌, ◌<◌, ◌≤◌, ◌+◌, IfOk, IfSome, is_some, position};
 ghost use Rattle.std.specs.Option.{option_map};
 ghost use Rattle.std.specs.Str.{bytes_eq};
 ghost use Rattle.cli_words.specs.Rows.{setting_name};
@@ -43,7 +43,7 @@ fn place_of(left: &[Setting], name: &str) -> Option<usize>
 impl Reading {
     ghost use Rattle.cli_words.specs.Bare.{bare};
     ghost use Rattle.cli_words.specs.Said.{Said, at_first, to_come, words_awaited};
-    ghost use Rattle.cli_words.specs.Form.{read_word, read_value, read_option, read_cut, read_file, finished};
+    ghost use Rattle.cli_words.specs.Form.{read_word, read_value, read_option, read_cut, read_named, read_file, finished};
 
     // After the command alone.
     pub(crate) fn at_first(alloc: Global, command: Command) -> Result<Reading, NoMemory>
@@ -98,14 +98,21 @@ impl Reading {
         ensures fewer { IfSome result (λ reading. to_come reading < to_come self) }
     {
         let place = place_of(&self.left, name)?;
-        let setting = self.left[place];
-        self.left.remove(place);
+        let setting = self.left.remove(place);
+        self.read_named(setting, value)
+    }
+
+    // The option, which may come no more, and its value if it stands in the same word.
+    fn read_named(self, setting: Setting, value: Option<&str>) -> Option<Reading>
+        ensures gives { result ≡ option_map bare (read_named (option_map (λ s. s.now) value.entry) setting self) }
+        ensures fewer { IfSome result (λ reading. to_come reading + words_awaited self.awaited ≤ to_come self + 1) }
+    {
         match value {
             Some(value) => self.read_value(setting, value),
-            None => {
-                self.awaited = Some(setting);
-                Some(self)
-            }
+            None => Some(Reading {
+                awaited: Some(setting),
+                ..self
+            }),
         }
     }
 

@@ -1,4 +1,5 @@
 mod Between
 mod Digits
 mod Parts
-mod Steps
+pub mod Steps
+mod Scanning

@@ -7,14 +7,14 @@ use Rattle.pgql_lexer.specs.Fronts.{Bytes, front_of}
 use Rattle.pgql_lexer.specs.Tokens.{Lexed, tokens, tokens_from, with_front, lexed_after, Gives}
 
 -- passing bytes over is dropping them
-tokens_from-drop : (passed place : ℕ) (text : Bytes) → tokens_from passed place text ≡ tokens_from 0 (place + passed) (drop passed text)
+pub tokens_from-drop : (passed place : ℕ) (text : Bytes) → tokens_from passed place text ≡ tokens_from 0 (place + passed) (drop passed text)
 tokens_from-drop zero place text = let same : place ≡ place + 0 = omega arith in ap (λ p. tokens_from 0 p text) same
 tokens_from-drop (suc passed) place [] = refl
 tokens_from-drop (suc passed) place (byte ∷ text) =
     let same : (place + 1) + passed ≡ place + suc passed = omega arith in
     tokens_from-drop passed (place + 1) text ∙ ap (λ p. tokens_from 0 p (drop passed text)) same
 
-tokens_from-front : (place : ℕ) (text : Bytes) → 0 < length text → tokens_from 0 place text ≡ lexed_after (front_of text) place (λ passed. tokens_from passed (place + 1) (drop 1 text))
+pub tokens_from-front : (place : ℕ) (text : Bytes) → 0 < length text → tokens_from 0 place text ≡ lexed_after (front_of text) place (λ passed. tokens_from passed (place + 1) (drop 1 text))
 tokens_from-front place [] some = absurd (omega arith)
 tokens_from-front place (byte ∷ text) some = refl
 

@@ -1,5 +1,5 @@
 -- The tokens of a text, or the first reason why it has none.
-use Rattle.std.specs.Prelude.{◌≡◌, ℕ, zero, suc, ◌+◌, ◌-◌, List, [], ◌∷◌, ◌++◌, map, Result, Ok, Err}
+use Rattle.std.specs.Prelude.{◌≡◌, ℕ, zero, suc, ◌+◌, ◌-◌, List, [], ◌∷◌, ◌++◌, map, drop, length, Option, Some, None, Result, Ok, Err}
 use Rattle.pgql_lexer.specs.declared.token.Token.{Token}
 use Rattle.pgql_lexer.specs.declared.token.LexFault.{LexFault}
 use Rattle.pgql_lexer.specs.declared.token.LexFault.TheVariants as fault
@@ -53,3 +53,13 @@ TokensBetween from to tokens = StandBetween from to (map stretch_of tokens)
 -- It isn't empty and lies between these two places.
 abbrev pub TokenBetween : ℕ → ℕ → Token → Type 0
 TokenBetween from to token = LiesBetween from to (stretch_of token)
+
+-- The text has tokens, or this is the first reason why it has none.
+abbrev pub HasTokens : Result (Unit {0}) LexFault → Lexed → Type 0
+HasTokens (Ok done) lexed = (found : List Token) × (lexed ≡ Ok found)
+HasTokens (Err e) lexed = lexed ≡ Err e
+
+-- the first of the tokens of a text that begins at this place, and the text behind it has the others
+abbrev pub IsFirst : ℕ → Bytes → Option Token → Type 0
+IsFirst place text None = tokens place text ≡ Ok []
+IsFirst place text (Some token) = (more : List Token) × (tokens place text ≡ Ok (token ∷ more)) × (tokens token.end (drop (token.end - place) text) ≡ Ok more) × LiesBetween place (place + length text) (stretch_of token)

@@ -14,12 +14,11 @@
 
 mod fronts;
 mod pieces;
+mod scan;
 mod token;
 mod tokens;
 
 pub use pieces::cut;
+pub use scan::{check, first_token};
 pub use token::{LexFault, Token, TokenKind};
 pub use tokens::lex;
-
-#[cfg(test)]
-mod tests;

@@ -7,10 +7,10 @@ use Rattle.pgql_lexer.specs.Tokens.{Lexed, tokens}
 use Rattle.pgql_tree.specs.declared.ast.Ast.{Ast}
 use Rattle.pgql_syntax.specs.declared.tree.SyntaxFault.{SyntaxFault}
 use Rattle.pgql_syntax.specs.declared.tree.SyntaxFault.TheVariants as fault
-use Rattle.pgql_syntax.specs.Lexemes.{Lexeme}
-use Rattle.pgql_syntax.specs.Seen.{seen}
+use Rattle.pgql_lexemes.specs.Lexemes.{Lexeme}
+use Rattle.pgql_lexemes.specs.Seen.{seen}
 use Rattle.pgql_syntax.specs.Grammar.{IsQuery}
-use Rattle.pgql_syntax.specs.Reading.{Refusal, unexpected, deep, Outcome}
+use Rattle.pgql_expr.specs.Reading.{Refusal, unexpected, deep, Outcome}
 use Rattle.pgql_syntax.specs.Queries.{read_whole}
 use Rattle.pgql_syntax.specs.Places.{IsTree, IsRefused, IsRefusedAt, IsFault, place_or}
 use Rattle.pgql_syntax.specs.Answers.{answer_of, answered, answer, Gives}

@@ -3,23 +3,24 @@ use Rattle.std.proofs.Common.{◌≡◌, ℕ, zero, suc, ◌+◌, max, ◌≤◌
 use Rattle.std.specs.Prelude.{nat_lt, nat_eq, ◌&&◌}
 use Rattle.std.proofs.lemmas.Bool.{eqb-true}
 use Rattle.std.proofs.lemmas.Bool.Decides.{nat_tests}
-use Rattle.pgql_syntax.specs.declared.kind.Kind.{Kind}
-use Rattle.pgql_syntax.specs.declared.kind.Kind.TheVariants as k
+use Rattle.pgql_lexemes.specs.declared.kind.Kind.{Kind}
+use Rattle.pgql_lexemes.specs.declared.kind.Kind.TheVariants as k
 use Rattle.pgql_tree.specs.declared.ast.Op.{Op}
 use Rattle.pgql_tree.specs.declared.ast.Op.TheVariants as op
 use Rattle.pgql_tree.specs.declared.ast.Placed.{Placed}
 use Rattle.pgql_tree.specs.declared.ast.AstExpr.{AstExpr}
 use Rattle.pgql_tree.specs.declared.ast.AstExpr.TheVariants as e
 use Rattle.pgql_tree.specs.declared.level.Level.{Level}
-use Rattle.pgql_syntax.specs.declared.found.Found.{Found}
+use Rattle.pgql_expr.specs.declared.found.Found.{Found}
 use Rattle.pgql_tree.specs.declared.level.Level.TheVariants.{Or, And, Not, Test, Sum, Product, Sign, Primary}
-use Rattle.pgql_syntax.specs.Lexemes.{Lexeme, is_word, content_of, is_id, is_label, place}
+use Rattle.pgql_lexemes.specs.Lexemes.{Lexeme, is_word, content_of, is_id, is_label, place}
 use Rattle.pgql_syntax.specs.Grammar.{IsExpr}
-use Rattle.pgql_syntax.specs.Operators.{operator, comparison}
+use Rattle.pgql_lexemes.specs.Operators.{operator, comparison}
 use Rattle.pgql_tree.specs.Levels.{tighter}
 use Rattle.pgql_syntax.specs.Grammar as g
-use Rattle.pgql_syntax.specs.Reading.{unexpected, Outcome, Parser, found, chosen, and_then, ◌>>=◌, ◌>>◌, pure, refuse, by_next, take_token, expect_by, expect, expect_word, deeper, same_kind, inside, primary_by, read_primary, read_property, read_call, name_by, read_name, read_date, marked, sign_by, read_sign, joined, more, chained, null_by, read_null, compared, test_by, read_test, not_by, read_not, read_level, nested, read_expr}
+use Rattle.pgql_expr.specs.Reading.{unexpected, Outcome, Parser, found, chosen, and_then, ◌>>=◌, ◌>>◌, pure, refuse, by_next, take_token, expect_by, expect, expect_word, deeper, same_kind, inside, primary_by, read_primary, read_property, read_call, name_by, read_name, read_date, marked, sign_by, read_sign, joined, more, chained, null_by, read_null, compared, test_by, read_test, not_by, read_not, read_level, nested, read_expr}
 use Rattle.pgql_syntax.proofs.Ends.{place_front}
+use Rattle.pgql_lexemes.proofs.SameKind.{same_itself}
 
 -- how tightly a token binds an expression before it
 abbrev pub binds : Kind → ℕ
@@ -228,11 +229,6 @@ joins level m h j (suc n) hr a b t op left right rest got o le jm fuel le' p x r
       let whole : P at = ap (λ v. more (suc m) (read_expr m) level at n (found (e.Binary op left right v) (max h hr + 1)) rest) (same ∙ p) in
       x ∙ goes ∙ subst P same whole),
 )
-
-pub same_itself : (kind : Kind) → same_kind kind kind ≡ true
-unfolding same_kind
-same_itself k.Select = refl
-same_itself kind = refl
 
 pub expect_goes : {A : Type 0} (kind : Kind) (t : Lexeme) (ts : List Lexeme) (f : Lexeme → Parser A) → t.kind ≡ kind → (expect kind >>= f) (t ∷ ts) ≡ f t ts
 unfolding expect

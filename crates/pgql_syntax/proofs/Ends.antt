@@ -1,19 +1,19 @@
 -- Reading follows the grammar.
 use Rattle.std.proofs.Common.{◌≡◌, ℕ, zero, suc, ◌+◌, max, ◌≤◌, ◌<◌, List, [], ◌∷◌, ◌++◌, Option, Some, None, refl, sym, ap, ◌∙◌, subst, append_assoc, add-one, arith}
 use Rattle.std.specs.Prelude.{pos}
-use Rattle.pgql_syntax.specs.declared.kind.Kind.TheVariants as k
+use Rattle.pgql_lexemes.specs.declared.kind.Kind.TheVariants as k
 use Rattle.pgql_tree.specs.declared.ast.Op.{Op}
 use Rattle.pgql_tree.specs.declared.ast.AstExpr.{AstExpr}
 use Rattle.pgql_tree.specs.declared.ast.AstExpr.TheVariants as e
 use Rattle.pgql_tree.specs.declared.level.Level.{Level}
-use Rattle.pgql_syntax.specs.declared.found.Found.{Found}
+use Rattle.pgql_expr.specs.declared.found.Found.{Found}
 use Rattle.pgql_tree.specs.declared.level.Level.TheVariants.{Or, And, Not, Test, Sum, Product, Sign, Primary}
-use Rattle.pgql_syntax.specs.Lexemes.{Lexeme, value_of, place}
+use Rattle.pgql_lexemes.specs.Lexemes.{Lexeme, value_of, place}
 use Rattle.pgql_syntax.specs.Grammar.{IsExpr}
-use Rattle.pgql_syntax.specs.Operators.{operator, comparison}
+use Rattle.pgql_lexemes.specs.Operators.{operator, comparison}
 use Rattle.pgql_tree.specs.Levels.{tighter}
 use Rattle.pgql_syntax.specs.Grammar as g
-use Rattle.pgql_syntax.specs.Reading.{deep, Parser, found, ◌>>=◌, ◌>>◌, pure, refuse, take_token, deeper, marked, joined, goes_by, more, chained}
+use Rattle.pgql_expr.specs.Reading.{deep, Parser, found, ◌>>=◌, ◌>>◌, pure, refuse, take_token, deeper, marked, joined, goes_by, more, chained}
 use Rattle.pgql_syntax.proofs.Samples.{sample}
 use Rattle.pgql_syntax.proofs.Follows.{CanEnd, Says, Follows, ends_with, Follows-pure, said-pure, said-deep, and_then_says, Follows-then, Follows-by_next, said-deeper}
 

@@ -3,18 +3,15 @@ use Rattle.std.proofs.Common.{◌≡◌, ℕ, ◌<◌, Bool, true, false, List, 
 use Rattle.std.specs.Prelude.{nat_lt}
 use Rattle.std.proofs.Common.{rules}
 use denote.Enum.Bare.{same_true}
-use Rattle.pgql_syntax.specs.contracts.kind.Kind.{the_type}
+use Rattle.pgql_lexemes.specs.contracts.kind.Kind.{the_type}
 use Rattle.std.proofs.lemmas.Bool.Decides.{nat_tests}
-use Rattle.pgql_syntax.specs.declared.kind.Kind.{Kind}
+use Rattle.pgql_lexemes.specs.declared.kind.Kind.{Kind}
 use Rattle.std.specs.Prelude.{map}
 use Rattle.std.proofs.lemmas.List.{map-append}
-use Rattle.pgql_syntax.specs.Lexemes.{Lexeme, is_word}
+use Rattle.pgql_lexemes.specs.Lexemes.{Lexeme, is_word}
 use Rattle.pgql_syntax.proofs.Samples.{sample}
-use Rattle.pgql_syntax.specs.Reading.{Refusal, unexpected, deep, Outcome, Parser, and_then, ◌>>=◌, ◌>>◌, pure, refuse, by_next, take_token, expect_by, expect, expect_word, deeper_by, deeper, same_kind}
-
-pub same_is : (a b : Kind) → same_kind a b ≡ true → a ≡ b
-unfolding same_kind
-same_is a b e = same_true the_type (search rules) a b e
+use Rattle.pgql_expr.specs.Reading.{Refusal, unexpected, deep, Outcome, Parser, and_then, ◌>>=◌, ◌>>◌, pure, refuse, by_next, take_token, expect_by, expect, expect_word, deeper_by, deeper, same_kind}
+use Rattle.pgql_lexemes.proofs.SameKind.{same_is}
 
 -- tokens of some kinds end it
 abbrev pub CanEnd : {A : Type 0} → (List Lexeme → A → Type 0) → List Lexeme → Type 0

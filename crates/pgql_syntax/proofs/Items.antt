@@ -1,18 +1,18 @@
 -- Reading items and keys follows the grammar.
 use Rattle.std.proofs.Common.{◌≡◌, ℕ, suc, max, ◌≤◌, Bool, true, false, List, [], ◌∷◌, ◌++◌, Option, None, Err, refl, arith}
-use Rattle.pgql_syntax.specs.declared.kind.Kind.{Kind}
-use Rattle.pgql_syntax.specs.declared.kind.Kind.TheVariants as k
+use Rattle.pgql_lexemes.specs.declared.kind.Kind.{Kind}
+use Rattle.pgql_lexemes.specs.declared.kind.Kind.TheVariants as k
 use Rattle.pgql_tree.specs.declared.ast.AstExpr.{AstExpr}
 use Rattle.pgql_tree.specs.declared.ast.Placed.{Placed}
 use Rattle.pgql_tree.specs.declared.ast.Item.{Item}
 use Rattle.pgql_tree.specs.declared.ast.Key.{Key}
-use Rattle.pgql_syntax.specs.declared.found.Found.{Found}
+use Rattle.pgql_expr.specs.declared.found.Found.{Found}
 use Rattle.pgql_tree.specs.declared.level.Level.TheVariants.{Or}
-use Rattle.pgql_syntax.specs.Lexemes.{Lexeme}
+use Rattle.pgql_lexemes.specs.Lexemes.{Lexeme}
 use Rattle.pgql_syntax.specs.Grammar.{IsName, Separated, alone, followed, Optional, absent, present, IsWhole, IsItem, IsKey, IsDirection, no_word, up, down, at_of}
 use Rattle.pgql_syntax.specs.Grammar as g
-use Rattle.pgql_syntax.specs.Reading.{unexpected, ◌>>=◌, pure, read_expr, nested, read_level, chained, read_not}
-use Rattle.pgql_syntax.specs.Lists.{optional, Shrinks}
+use Rattle.pgql_expr.specs.Reading.{unexpected, ◌>>=◌, pure, read_expr, nested, read_level, chained, read_not}
+use Rattle.pgql_lexemes.specs.Lists.{optional, Shrinks}
 use Rattle.pgql_syntax.specs.Patterns.{read_placed}
 use Rattle.pgql_syntax.specs.Queries.{read_whole_expr, read_item, direction_by, read_direction, read_key}
 use Rattle.pgql_syntax.proofs.Follows.{Says, Follows, ends_with, Follows-pure, Follows-then, Follows-by_next, said-pure, said-after}

@@ -8,10 +8,10 @@ use Rattle.pgql_lexer.specs.declared.token.TokenKind.{TokenKind}
 use Rattle.pgql_lexer.specs.declared.fronts.Front.TheVariants as front
 use Rattle.pgql_lexer.specs.Fronts.{is_word_byte, front_of}
 use Rattle.pgql_lexer.specs.Tokens.{Lexed, with_front, lexed_after, tokens_from, tokens}
-use Rattle.pgql_syntax.specs.declared.kind.Kind.{Kind}
-use Rattle.pgql_syntax.specs.Lexemes.{Lexeme}
-use Rattle.pgql_syntax.specs.Seen.{kind_of, seen}
-use Rattle.pgql_syntax.proofs.Sound.{part_is}
+use Rattle.pgql_lexemes.specs.declared.kind.Kind.{Kind}
+use Rattle.pgql_lexemes.specs.Lexemes.{Lexeme}
+use Rattle.pgql_lexemes.specs.Seen.{kind_of, seen}
+use Rattle.pgql_lexemes.proofs.Sound.{part_is}
 
 -- a token without its place
 abbrev pub Mark : Type 0

@@ -11,15 +11,15 @@ use Rattle.pgql_tree.specs.declared.ast.AstExpr.TheFolds.{fold-AstExpr}
 use Rattle.pgql_tree.specs.declared.ast.Item.{Item}
 use Rattle.pgql_tree.specs.declared.ast.Key.{Key}
 use Rattle.pgql_tree.specs.declared.ast.Ast.{Ast}
-use Rattle.pgql_syntax.specs.declared.kind.Kind.TheVariants as k
+use Rattle.pgql_lexemes.specs.declared.kind.Kind.TheVariants as k
 use Rattle.pgql_tree.specs.declared.level.Level.{Level}
 use Rattle.pgql_lexer.specs.declared.token.Token.{Token}
 use Rattle.pgql_lexer.specs.declared.fronts.Front.{Front}
 use Rattle.pgql_lexer.specs.declared.fronts.Front.TheVariants as front
 use Rattle.pgql_lexer.specs.Fronts.{front_of}
 use Rattle.pgql_lexer.specs.Tokens.{Lexed, with_front, lexed_after, tokens_from, tokens}
-use Rattle.pgql_syntax.specs.Lexemes.{Lexeme}
-use Rattle.pgql_syntax.specs.Seen.{seen}
+use Rattle.pgql_lexemes.specs.Lexemes.{Lexeme}
+use Rattle.pgql_lexemes.specs.Seen.{seen}
 use Rattle.pgql_syntax.specs.Grammar.{IsExpr, IsWhole, IsItem, IsKey, Separated, alone, followed, Optional, absent, present, AreKeys, no_order, ordered, IsQuery}
 use Rattle.pgql_syntax.specs.Grammar as g
 use Rattle.pgql_syntax.specs.Places.{IsTree}

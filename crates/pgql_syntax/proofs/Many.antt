@@ -1,14 +1,14 @@
 -- The laws of items one after the other, as long as the next token begins one.
 use Rattle.std.proofs.lemmas.List.{append-nil}
 use Rattle.std.proofs.Common.{◌≡◌, ℕ, zero, suc, ◌≤◌, ◌<◌, Bool, true, false, List, [], ◌∷◌, ◌++◌, length, length-append, Ok, Err, refl, sym, ap, ◌∙◌, subst, append_assoc, arith}
-use Rattle.pgql_syntax.specs.declared.kind.Kind.{Kind}
-use Rattle.pgql_syntax.specs.declared.input.Stop.{Stop}
-use Rattle.pgql_syntax.specs.declared.input.Stop.TheVariants as stop
-use Rattle.pgql_syntax.specs.Lexemes.{Lexeme}
+use Rattle.pgql_lexemes.specs.declared.kind.Kind.{Kind}
+use Rattle.pgql_lexemes.specs.declared.input.Stop.{Stop}
+use Rattle.pgql_lexemes.specs.declared.input.Stop.TheVariants as stop
+use Rattle.pgql_lexemes.specs.Lexemes.{Lexeme}
 use Rattle.pgql_syntax.specs.Grammar.{Many, no_more, one_more}
-use Rattle.pgql_syntax.specs.Reading.{Refusal, unexpected, deep, Outcome, Parser, and_then, ◌>>=◌, pure, refuse}
-use Rattle.pgql_syntax.specs.Reads.{Reads}
-use Rattle.pgql_syntax.specs.Lists.{choose, many_from, many, begins_with}
+use Rattle.pgql_expr.specs.Reading.{Refusal, unexpected, deep, Outcome, Parser, and_then, ◌>>=◌, pure, refuse}
+use Rattle.pgql_lexemes.specs.Reads.{Reads}
+use Rattle.pgql_lexemes.specs.Lists.{choose, many_from, many, begins_with}
 use Rattle.pgql_syntax.proofs.Steady.{Steady, Steady-then, Steady-pure, Steady-refuse, Steady-by_next}
 use Rattle.pgql_syntax.proofs.Follows.{Says, Follows, ends_with, Follows-pure, Follows-then, Follows-by_next, said-pure, said-unexpected}
 use Rattle.pgql_syntax.proofs.Turns.{Enough, Steady-counted}

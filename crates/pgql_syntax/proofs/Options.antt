@@ -1,13 +1,14 @@
 -- The laws of optional parts.
 use Rattle.std.proofs.Common.{◌≡◌, Bool, true, false, List, [], ◌∷◌, ◌++◌, Option, Some, None, Ok, refl, ap, ◌∙◌}
-use Rattle.pgql_syntax.specs.declared.kind.Kind.{Kind}
-use Rattle.pgql_syntax.specs.Lexemes.{Lexeme}
+use Rattle.pgql_lexemes.specs.declared.kind.Kind.{Kind}
+use Rattle.pgql_lexemes.specs.Lexemes.{Lexeme}
 use Rattle.pgql_syntax.specs.Grammar.{Optional, absent, present}
-use Rattle.pgql_syntax.specs.Reading.{Refusal, Parser, and_then, ◌>>=◌, ◌>>◌, pure, take_token, same_kind}
-use Rattle.pgql_syntax.specs.Lists.{choose, optional}
+use Rattle.pgql_expr.specs.Reading.{Refusal, Parser, and_then, ◌>>=◌, ◌>>◌, pure, take_token, same_kind}
+use Rattle.pgql_lexemes.specs.Lists.{choose, optional}
 use Rattle.pgql_syntax.proofs.Steady.{Steady, Steady-then, Steady-pure, Steady-take, Steady-by_next}
-use Rattle.pgql_syntax.proofs.Follows.{Says, Follows, ends_with, Follows-pure, Follows-then, Follows-by_next, said-pure, said-after, same_is}
-use Rattle.pgql_syntax.proofs.Complete.{same_itself}
+use Rattle.pgql_syntax.proofs.Follows.{Says, Follows, ends_with, Follows-pure, Follows-then, Follows-by_next, said-pure, said-after}
+use Rattle.pgql_lexemes.proofs.SameKind.{same_is}
+use Rattle.pgql_lexemes.proofs.SameKind.{same_itself}
 use Rattle.pgql_syntax.proofs.Lists.{IsNot}
 
 module _ (keeps : Refusal → Type 0) {A : Type 0} (item item' : Parser A) (mark : Kind) (s : Steady keeps item item') where

@@ -1,15 +1,15 @@
 -- Laws of combinators: what stands behind other tokens, parts that may be missing, choices.
 use Rattle.std.proofs.Common.{◌≡◌, suc, ◌≤◌, ◌<◌, Bool, true, false, List, [], ◌∷◌, ◌++◌, length, length-append, Option, Some, None, Ok, Err, refl, sym, ap, ◌∙◌, subst, append_assoc, arith}
 use Rattle.std.specs.Prelude.{map}
-use Rattle.pgql_syntax.specs.declared.kind.Kind.{Kind}
-use Rattle.pgql_syntax.specs.Lexemes.{Lexeme}
+use Rattle.pgql_lexemes.specs.declared.kind.Kind.{Kind}
+use Rattle.pgql_lexemes.specs.Lexemes.{Lexeme}
 use Rattle.pgql_syntax.specs.Grammar.{Perhaps, without, with_part}
-use Rattle.pgql_syntax.specs.Reading.{Refusal, unexpected, deep, Outcome, Parser, and_then, ◌>>=◌, pure, same_kind}
-use Rattle.pgql_syntax.specs.Lists.{choose, perhaps, Shrinks}
+use Rattle.pgql_expr.specs.Reading.{Refusal, unexpected, deep, Outcome, Parser, and_then, ◌>>=◌, pure, same_kind}
+use Rattle.pgql_lexemes.specs.Lists.{choose, perhaps, Shrinks}
 use Rattle.pgql_syntax.proofs.Samples.{sample}
 use Rattle.pgql_syntax.proofs.Steady.{Steady, Steady-then, Steady-pure, Steady-by_next}
 use Rattle.pgql_syntax.proofs.Follows.{CanEnd, Says, Refused, Follows, ends_with, Follows-pure, Follows-then, Follows-by_next, said-pure}
-use Rattle.pgql_syntax.proofs.Complete.{same_itself}
+use Rattle.pgql_lexemes.proofs.SameKind.{same_itself}
 use Rattle.pgql_syntax.proofs.Lists.{IsNot}
 use Rattle.pgql_syntax.proofs.Many.{Takes}
 

@@ -19,11 +19,11 @@ use Rattle.pgql_tree.specs.Same.{bare_name, bare}
 use Rattle.pgql_tree.proofs.Bare.{bare-Int, bare-Text, bare-Date, bare-Bool, bare-Name, bare-Property, bare-Id, bare-Label, bare-Not, bare-Neg, bare-IsNull, bare-Binary}
 use Rattle.pgql_print.specs.Printing.{rank, level_of, left_of, sign_of, is_looser, null_test, spelled, own_level}
 use Rattle.pgql_print.proofs.Spelling.{own-Int, own-Text, own-Date, own-Bool, own-Name, own-Property, own-Id, own-Label, own-Not, own-Neg, own-IsNull, own-Binary, alone-Int, alone-Text, alone-Date, alone-Bool, alone-Name, alone-Property, alone-Id, alone-Label, alone-Not, alone-Neg, alone-IsNull, alone-Binary, with_parentheses, without_parentheses}
-use Rattle.pgql_syntax.specs.declared.kind.Kind.{Kind}
-use Rattle.pgql_syntax.specs.declared.kind.Kind.TheVariants as k
-use Rattle.pgql_syntax.specs.Lexemes.{Lexeme, is_word, value_of, undoubled, content_of, place}
-use Rattle.pgql_syntax.specs.Seen.{word_kind}
-use Rattle.pgql_syntax.specs.Operators.{operator, comparison}
+use Rattle.pgql_lexemes.specs.declared.kind.Kind.{Kind}
+use Rattle.pgql_lexemes.specs.declared.kind.Kind.TheVariants as k
+use Rattle.pgql_lexemes.specs.Lexemes.{Lexeme, is_word, value_of, undoubled, content_of, place}
+use Rattle.pgql_lexemes.specs.Seen.{word_kind}
+use Rattle.pgql_lexemes.specs.Operators.{operator, comparison}
 use Rattle.pgql_syntax.specs.Grammar.{IsExpr}
 use Rattle.pgql_syntax.specs.Grammar as g
 use Rattle.pgql_syntax.proofs.Ends.{higher}

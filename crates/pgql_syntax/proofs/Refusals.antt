@@ -3,11 +3,11 @@ use Rattle.std.proofs.lemmas.List.{append-nil, append_cancel_right}
 use Rattle.std.proofs.Common.{◌≡◌, ℕ, max, ◌≤◌, ◌+◌, List, [], ◌∷◌, ◌++◌, length, length-append, Ok, Err, refl, sym, ap, ◌∙◌, subst, append_assoc, arith}
 use Rattle.std.specs.Prelude.{map}
 use Rattle.pgql_tree.specs.declared.ast.Ast.{Ast}
-use Rattle.pgql_syntax.specs.Lexemes.{Lexeme}
+use Rattle.pgql_lexemes.specs.Lexemes.{Lexeme}
 use Rattle.pgql_syntax.specs.Grammar.{IsQuery}
-use Rattle.pgql_syntax.specs.Reading.{Refusal, unexpected, deep, Outcome, Parser}
+use Rattle.pgql_expr.specs.Reading.{Refusal, unexpected, deep, Outcome, Parser}
 use Rattle.pgql_syntax.specs.Queries.{read_query, finished, read_whole}
-use Rattle.pgql_syntax.specs.Reading.{and_then, ◌>>◌, pure}
+use Rattle.pgql_expr.specs.Reading.{and_then, ◌>>◌, pure}
 use Rattle.pgql_syntax.specs.Places.{IsLive, GoesOn, Because, IsRefused}
 use Rattle.pgql_syntax.proofs.Samples.{sample}
 use Rattle.pgql_syntax.proofs.Written.{samples_written}

@@ -1,8 +1,8 @@
 -- A token of each kind, to end a query with.
 use Rattle.std.specs.Prelude.{ℕ, List, codes}
-use Rattle.pgql_syntax.specs.declared.kind.Kind.{Kind}
-use Rattle.pgql_syntax.specs.declared.kind.Kind.TheVariants as k
-use Rattle.pgql_syntax.specs.Lexemes.{Lexeme}
+use Rattle.pgql_lexemes.specs.declared.kind.Kind.{Kind}
+use Rattle.pgql_lexemes.specs.declared.kind.Kind.TheVariants as k
+use Rattle.pgql_lexemes.specs.Lexemes.{Lexeme}
 
 unfoldable pub spelling : Kind → List ℕ
 spelling k.Select = codes "SELECT"

@@ -14,10 +14,10 @@ use Rattle.pgql_lexer.specs.declared.fronts.Front.TheVariants as front
 use Rattle.pgql_lexer.specs.Fronts.{is_space, begins_word, is_word_byte, is_quote, opens_comment, is_symbol, is_pair, value_after, most_number, number_of, literal_end, literal_to, comment_to, front_of}
 use Rattle.pgql_lexer.specs.Tokens.{tokens}
 use Rattle.pgql_print.specs.Printing.{doubled, quoted}
-use Rattle.pgql_syntax.specs.declared.kind.Kind.TheVariants as k
-use Rattle.pgql_syntax.specs.Lexemes.{Lexeme, is_word, value_of, undoubled, content_of}
-use Rattle.pgql_syntax.specs.Seen.{word_kind, symbol_kind, part, seen_as, seen}
-use Rattle.pgql_syntax.proofs.Sound.{Facts, front_facts, StandsIn, all_stand, part_is, word_is_word, is_sign, symbol_is_sign, sign_no_word, clash}
+use Rattle.pgql_lexemes.specs.declared.kind.Kind.TheVariants as k
+use Rattle.pgql_lexemes.specs.Lexemes.{Lexeme, is_word, value_of, undoubled, content_of}
+use Rattle.pgql_lexemes.specs.Seen.{word_kind, symbol_kind, part, seen_as, seen}
+use Rattle.pgql_lexemes.proofs.Sound.{Facts, front_facts, StandsIn, all_stand, part_is, word_is_word, is_sign, symbol_is_sign, sign_no_word, clash}
 use Rattle.pgql_syntax.proofs.Lexing.{parts, parts_first, IsLexed, one_token}
 use Rattle.pgql_syntax.proofs.Standing.{IsWord, if_false}
 

@@ -15,17 +15,17 @@ use Rattle.pgql_tree.specs.declared.ast.Path.{Path}
 use Rattle.pgql_tree.specs.declared.ast.Key.{Key}
 use Rattle.pgql_tree.specs.declared.ast.Ast.{Ast}
 use Rattle.pgql_syntax.specs.declared.pattern.Spec.{Spec}
-use Rattle.pgql_syntax.specs.declared.kind.Kind.{Kind}
+use Rattle.pgql_lexemes.specs.declared.kind.Kind.{Kind}
 use Rattle.pgql_tree.specs.declared.level.Level.{Level}
 use Rattle.pgql_lexer.specs.declared.token.Token.{Token}
-use Rattle.pgql_syntax.specs.Lexemes.{Lexeme, place}
-use Rattle.pgql_syntax.specs.Seen.{seen, IsTokenOf}
+use Rattle.pgql_lexemes.specs.Lexemes.{Lexeme, place}
+use Rattle.pgql_lexemes.specs.Seen.{seen, IsTokenOf}
 use Rattle.pgql_syntax.specs.Grammar.{IsName, IsExpr, IsWhole, IsItem, IsKey, Separated, alone, followed, Optional, absent, present, Perhaps, without, with_part, Many, no_more, one_more, IsSpec, IsEnclosed, IsVertex, IsEdge, IsStep, IsPath, AreKeys, no_order, ordered, IsPattern, IsQuery, at_of}
 use Rattle.pgql_syntax.specs.Grammar as g
 use Rattle.pgql_syntax.specs.Places.{IsTree}
 use Rattle.pgql_tree.specs.AllPlaces.{places_of, places, name_places, item_places, vertex_places, edge_places, step_places, path_places, condition_places, key_places, query_places, IsWithin}
 use Rattle.pgql_syntax.proofs.Complete.{some_token}
-use Rattle.pgql_syntax.proofs.Sound.{all_sound}
+use Rattle.pgql_lexemes.proofs.Sound.{all_sound}
 use Rattle.pgql_syntax.proofs.Ats.{at-Int, at-Text, at-Date, at-Bool, at-Name, at-Property, at-Id, at-Label, at-Not, at-Neg, at-IsNull, at-Binary}
 use Rattle.pgql_tree.proofs.Variants.{Is, is_Int, is_Text, is_Date, is_Bool, is_Name, is_Property, is_Id, is_Label, is_Not, is_Neg, is_IsNull, is_Binary, which}
 

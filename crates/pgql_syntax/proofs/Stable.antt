@@ -2,19 +2,19 @@
 use Rattle.std.proofs.Common.{◌≡◌, ℕ, zero, suc, ◌+◌, ◌≤◌, ◌<◌, Bool, true, false, Option, Some, None, refl, arith}
 use Rattle.std.specs.Prelude.{nat_lt}
 use Rattle.std.proofs.lemmas.Bool.Decides.{nat_tests}
-use Rattle.pgql_syntax.specs.declared.kind.Kind.{Kind}
-use Rattle.pgql_syntax.specs.declared.kind.Kind.TheVariants as k
+use Rattle.pgql_lexemes.specs.declared.kind.Kind.{Kind}
+use Rattle.pgql_lexemes.specs.declared.kind.Kind.TheVariants as k
 use Rattle.pgql_tree.specs.declared.ast.Op.{Op}
 use Rattle.pgql_tree.specs.declared.ast.Placed.{Placed}
 use Rattle.pgql_tree.specs.declared.ast.AstExpr.{AstExpr}
 use Rattle.pgql_tree.specs.declared.ast.AstExpr.TheVariants as e
 use Rattle.pgql_tree.specs.declared.level.Level.{Level}
-use Rattle.pgql_syntax.specs.declared.found.Found.{Found}
+use Rattle.pgql_expr.specs.declared.found.Found.{Found}
 use Rattle.pgql_tree.specs.declared.level.Level.TheVariants.{Or, And, Not, Test, Sum, Product, Sign, Primary}
-use Rattle.pgql_syntax.specs.Lexemes.{Lexeme, is_word, content_of, is_id, is_label}
-use Rattle.pgql_syntax.specs.Operators.{operator}
+use Rattle.pgql_lexemes.specs.Lexemes.{Lexeme, is_word, content_of, is_id, is_label}
+use Rattle.pgql_lexemes.specs.Operators.{operator}
 use Rattle.pgql_tree.specs.Levels.{tighter}
-use Rattle.pgql_syntax.specs.Reading.{Refusal, unexpected, deep, Parser, found, chosen, ◌>>◌, expect_by, expect, expect_word, deeper_by, deeper, same_kind, inside, primary_by, read_primary, read_property, read_call, name_by, read_name, read_date, marked, sign_by, read_sign, joined, goes_by, more, chained, null_by, read_null, compared, test_by, read_test, not_by, read_not, read_level, nested, read_expr}
+use Rattle.pgql_expr.specs.Reading.{Refusal, unexpected, deep, Parser, found, chosen, ◌>>◌, expect_by, expect, expect_word, deeper_by, deeper, same_kind, inside, primary_by, read_primary, read_property, read_call, name_by, read_name, read_date, marked, sign_by, read_sign, joined, goes_by, more, chained, null_by, read_null, compared, test_by, read_test, not_by, read_not, read_level, nested, read_expr}
 use Rattle.pgql_syntax.proofs.Steady.{Steady, Steady-then, Steady-pure, Steady-refuse, Steady-refuse_only, Steady-here, Steady-take, Steady-by_next}
 
 lt_more : (h m m' : ℕ) → m ≤ m' → nat_lt h m ≡ true → nat_lt h m' ≡ true

@@ -12,8 +12,8 @@ use Rattle.std.specs.Str.Parse.{AllDigits}
 use Rattle.pgql_lexer.specs.declared.token.TokenKind.TheVariants as token
 use Rattle.pgql_lexer.specs.declared.fronts.Front.TheVariants as front
 use Rattle.pgql_lexer.specs.Fronts.{is_space, begins_word, is_word_byte, opens_comment, is_pair, value_after, most_number, number_of, front_of}
-use Rattle.pgql_syntax.specs.declared.kind.Kind.TheVariants as k
-use Rattle.pgql_syntax.specs.Seen.{word_kind, symbol_kind}
+use Rattle.pgql_lexemes.specs.declared.kind.Kind.TheVariants as k
+use Rattle.pgql_lexemes.specs.Seen.{word_kind, symbol_kind}
 use Rattle.pgql_syntax.proofs.Lexing.{parts, parts_first, any_text, IsLexed, one_token}
 
 pub if_true : {A : Type 0} (b : Bool) (x y : A) → b ≡ true → (if b then x else y) ≡ x

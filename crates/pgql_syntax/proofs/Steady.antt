@@ -1,7 +1,7 @@
 -- What a parser answers rests on the tokens that it took and on the next one alone.
 use Rattle.std.proofs.Common.{◌≡◌, List, [], ◌∷◌, ◌++◌, Ok, Err, refl, sym, ap, ◌∙◌, subst, append_assoc}
-use Rattle.pgql_syntax.specs.Lexemes.{Lexeme}
-use Rattle.pgql_syntax.specs.Reading.{Refusal, unexpected, Outcome, Parser, and_then, ◌>>=◌, pure, here, refuse, by_next, take_token}
+use Rattle.pgql_lexemes.specs.Lexemes.{Lexeme}
+use Rattle.pgql_expr.specs.Reading.{Refusal, unexpected, Outcome, Parser, and_then, ◌>>=◌, pure, here, refuse, by_next, take_token}
 
 -- both begin with one token, or both are at the end
 abbrev pub Same : List Lexeme → List Lexeme → Type 0
@@ -57,7 +57,7 @@ module _ (keeps : Refusal → Type 0) where
   pub Steady-refuse_only : {A : Type 0} (why : Refusal) (p' : Parser A) → (keeps why → ⊥) → Steady (refuse why) p'
   Steady-refuse_only why p' never = record { again = λ ts. ([], refl, λ kept r same. absurd (never kept)) }
 
-  same_place : (ts r : List Lexeme) → Same ts r → here r ≡ Ok (Rattle.pgql_syntax.specs.Lexemes.place ts, r)
+  same_place : (ts r : List Lexeme) → Same ts r → here r ≡ Ok (Rattle.pgql_lexemes.specs.Lexemes.place ts, r)
   same_place [] [] h = refl
   same_place [] (u ∷ us) h = absurd h
   same_place (t ∷ ts) [] h = absurd h

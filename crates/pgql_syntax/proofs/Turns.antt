@@ -1,8 +1,8 @@
 -- A parser that counts its turns by the tokens that are left is steady where the count does not matter.
 use Rattle.std.proofs.lemmas.List.{append_cancel_right}
 use Rattle.std.proofs.Common.{◌≡◌, ℕ, max, ◌≤◌, List, ◌++◌, length, Ok, Err, refl, sym, ap, ◌∙◌, subst, arith}
-use Rattle.pgql_syntax.specs.Lexemes.{Lexeme}
-use Rattle.pgql_syntax.specs.Reading.{Refusal, Outcome, Parser}
+use Rattle.pgql_lexemes.specs.Lexemes.{Lexeme}
+use Rattle.pgql_expr.specs.Reading.{Refusal, Outcome, Parser}
 use Rattle.pgql_syntax.proofs.Steady.{Steady, Again}
 
 -- any two counts that are enough agree

@@ -1,22 +1,23 @@
 -- Reading a whole query follows the grammar.
 use Rattle.std.proofs.lemmas.List.{append-nil}
 use Rattle.std.proofs.Common.{◌≡◌, ℕ, max, ◌≤◌, Bool, true, false, List, [], ◌∷◌, ◌++◌, Option, None, refl, subst, arith}
-use Rattle.pgql_syntax.specs.declared.kind.Kind.TheVariants as k
+use Rattle.pgql_lexemes.specs.declared.kind.Kind.TheVariants as k
 use Rattle.pgql_tree.specs.declared.ast.AstExpr.{AstExpr}
 use Rattle.pgql_tree.specs.declared.ast.Item.{Item}
 use Rattle.pgql_tree.specs.declared.ast.Key.{Key}
 use Rattle.pgql_tree.specs.declared.ast.Path.{Path}
 use Rattle.pgql_tree.specs.declared.ast.Ast.{Ast}
 use Rattle.pgql_syntax.specs.declared.query.Tail.{Tail}
-use Rattle.pgql_syntax.specs.Lexemes.{Lexeme, value_of}
+use Rattle.pgql_lexemes.specs.Lexemes.{Lexeme, value_of}
 use Rattle.pgql_syntax.specs.Grammar.{Separated, alone, Optional, absent, IsWhole, IsItem, IsKey, IsPath, IsDistinct, every, distinct, AreKeys, no_order, ordered, IsLimit, IsSelection, IsPattern, IsTail, IsQuery}
 use Rattle.pgql_syntax.specs.Grammar as g
-use Rattle.pgql_syntax.specs.Reading.{◌>>=◌, ◌>>◌, pure, take_token, expect, same_kind}
-use Rattle.pgql_syntax.specs.Lists.{choose, separated, optional}
+use Rattle.pgql_expr.specs.Reading.{◌>>=◌, ◌>>◌, pure, take_token, expect, same_kind}
+use Rattle.pgql_lexemes.specs.Lists.{choose, separated, optional}
 use Rattle.pgql_syntax.specs.Patterns.{read_path}
 use Rattle.pgql_syntax.specs.Queries.{read_whole_expr, read_item, read_key, read_distinct, read_keys, read_number, read_selection, read_pattern, read_tail, whole_of, read_query, finished, read_whole}
 use Rattle.pgql_syntax.proofs.Samples.{sample}
-use Rattle.pgql_syntax.proofs.Follows.{Says, Follows, ends_with, Follows-pure, Follows-then, Follows-by_next, Follows-expect, said-pure, said-unexpected, said-after, same_is}
+use Rattle.pgql_syntax.proofs.Follows.{Says, Follows, ends_with, Follows-pure, Follows-then, Follows-by_next, Follows-expect, said-pure, said-unexpected, said-after}
+use Rattle.pgql_lexemes.proofs.SameKind.{same_is}
 use Rattle.pgql_syntax.proofs.Ends.{one, one_expr}
 use Rattle.pgql_syntax.proofs.Lists.{Follows-separated}
 use Rattle.pgql_syntax.proofs.Options.{Follows-optional}

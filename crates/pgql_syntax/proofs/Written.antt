@@ -9,9 +9,9 @@ use Rattle.std.specs.Prelude.{map}
 use Rattle.std.specs.List.{AllByRecursion}
 use Rattle.pgql_lexer.specs.declared.token.TokenKind.TheVariants as token
 use Rattle.pgql_lexer.specs.Fronts.{front_of}
-use Rattle.pgql_syntax.specs.declared.kind.Kind.{Kind}
-use Rattle.pgql_syntax.specs.declared.kind.Kind.TheVariants as k
-use Rattle.pgql_syntax.specs.Seen.{word_kind, symbol_kind}
+use Rattle.pgql_lexemes.specs.declared.kind.Kind.{Kind}
+use Rattle.pgql_lexemes.specs.declared.kind.Kind.TheVariants as k
+use Rattle.pgql_lexemes.specs.Seen.{word_kind, symbol_kind}
 use Rattle.pgql_syntax.specs.Places.{IsWritten}
 use Rattle.pgql_syntax.proofs.Samples.{spelling, sample}
 

@@ -6,9 +6,9 @@ use Rattle.pgql_lexer.specs.Tokens.{tokens}
 use Rattle.pgql_tree.specs.declared.ast.Ast.{Ast}
 use Rattle.pgql_syntax.specs.declared.tree.SyntaxFault.{SyntaxFault}
 use Rattle.pgql_syntax.specs.declared.tree.SyntaxFault.TheVariants as fault
-use Rattle.pgql_syntax.specs.Seen.{seen}
+use Rattle.pgql_lexemes.specs.Seen.{seen}
 use Rattle.pgql_syntax.specs.Places.{place_or}
-use Rattle.pgql_syntax.specs.Reading.{Refusal, unexpected, deep, Outcome}
+use Rattle.pgql_expr.specs.Reading.{Refusal, unexpected, deep, Outcome}
 use Rattle.pgql_syntax.specs.Queries.{read_whole}
 
 abbrev pub fault_of : Refusal → ℕ → SyntaxFault

@@ -1,7 +1,7 @@
 -- The grammar, with a case for each production.
 use Rattle.std.specs.Prelude.{◌≡◌, ℕ, suc, pos, Bool, true, false, List, [], ◌∷◌, ◌++◌, Option, Some, None}
-use Rattle.pgql_syntax.specs.declared.kind.Kind.{Kind}
-use Rattle.pgql_syntax.specs.declared.kind.Kind.TheVariants as k
+use Rattle.pgql_lexemes.specs.declared.kind.Kind.{Kind}
+use Rattle.pgql_lexemes.specs.declared.kind.Kind.TheVariants as k
 use Rattle.pgql_tree.specs.declared.ast.Op.{Op}
 use Rattle.pgql_tree.specs.declared.ast.Placed.{Placed}
 use Rattle.pgql_tree.specs.declared.ast.AstExpr.{AstExpr, out-AstExpr}
@@ -17,9 +17,9 @@ use Rattle.pgql_syntax.specs.declared.pattern.Spec.{Spec}
 use Rattle.pgql_syntax.specs.declared.query.Tail.{Tail}
 use Rattle.pgql_tree.specs.declared.level.Level.{Level}
 use Rattle.pgql_tree.specs.declared.level.Level.TheVariants.{Or, And, Not, Test, Sum, Product, Sign, Primary}
-use Rattle.pgql_syntax.specs.Operators.{operator, comparison}
+use Rattle.pgql_lexemes.specs.Operators.{operator, comparison}
 use Rattle.pgql_tree.specs.Levels.{tighter}
-use Rattle.pgql_syntax.specs.Lexemes.{Lexeme, is_word, value_of, content_of, is_id, is_label, place}
+use Rattle.pgql_lexemes.specs.Lexemes.{Lexeme, is_word, value_of, content_of, is_id, is_label, place}
 
 -- ---- lists and optional parts
 

@@ -1,15 +1,15 @@
 -- Reading patterns.
 use Rattle.std.specs.Prelude.{ℕ, Bool, true, false, List, []}
-use Rattle.pgql_syntax.specs.declared.kind.Kind.{Kind}
-use Rattle.pgql_syntax.specs.declared.kind.Kind.TheVariants as k
+use Rattle.pgql_lexemes.specs.declared.kind.Kind.{Kind}
+use Rattle.pgql_lexemes.specs.declared.kind.Kind.TheVariants as k
 use Rattle.pgql_tree.specs.declared.ast.Placed.{Placed}
 use Rattle.pgql_tree.specs.declared.ast.VertexPat.{VertexPat}
 use Rattle.pgql_tree.specs.declared.ast.EdgePat.{EdgePat}
 use Rattle.pgql_tree.specs.declared.ast.Path.{Path}
 use Rattle.pgql_syntax.specs.declared.pattern.Spec.{Spec}
 use Rattle.pgql_syntax.specs.Grammar.{vertex_of, edge_of, arrow}
-use Rattle.pgql_syntax.specs.Reading.{Parser, ◌>>=◌, ◌>>◌, pure, refuse, unexpected, by_next, take_token, expect, expect_word, same_kind, placed}
-use Rattle.pgql_syntax.specs.Lists.{choose, separated, many, perhaps}
+use Rattle.pgql_expr.specs.Reading.{Parser, ◌>>=◌, ◌>>◌, pure, refuse, unexpected, by_next, take_token, expect, expect_word, same_kind, placed}
+use Rattle.pgql_lexemes.specs.Lists.{choose, separated, many, perhaps}
 
 unfoldable pub read_placed : Parser Placed
 read_placed = expect k.Name >>= λ t. pure (placed t)

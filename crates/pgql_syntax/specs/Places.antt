@@ -9,10 +9,10 @@ use Rattle.pgql_lexer.specs.Tokens.{tokens}
 use Rattle.pgql_tree.specs.declared.ast.Ast.{Ast}
 use Rattle.pgql_syntax.specs.declared.tree.SyntaxFault.{SyntaxFault}
 use Rattle.pgql_syntax.specs.declared.tree.SyntaxFault.TheVariants as fault
-use Rattle.pgql_syntax.specs.Lexemes.{Lexeme}
-use Rattle.pgql_syntax.specs.Seen.{kind_of, seen}
+use Rattle.pgql_lexemes.specs.Lexemes.{Lexeme}
+use Rattle.pgql_lexemes.specs.Seen.{kind_of, seen}
 use Rattle.pgql_syntax.specs.Grammar.{IsQuery}
-use Rattle.pgql_syntax.specs.Reading.{Refusal, unexpected, deep}
+use Rattle.pgql_expr.specs.Reading.{Refusal, unexpected, deep}
 
 -- ---- trees
 

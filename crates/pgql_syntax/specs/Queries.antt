@@ -1,7 +1,7 @@
 -- Reading queries.
 use Rattle.std.specs.Prelude.{ℕ, Bool, true, false, List, []}
-use Rattle.pgql_syntax.specs.declared.kind.Kind.{Kind}
-use Rattle.pgql_syntax.specs.declared.kind.Kind.TheVariants as k
+use Rattle.pgql_lexemes.specs.declared.kind.Kind.{Kind}
+use Rattle.pgql_lexemes.specs.declared.kind.Kind.TheVariants as k
 use Rattle.pgql_tree.specs.declared.ast.AstExpr.{AstExpr}
 use Rattle.pgql_tree.specs.declared.ast.Item.{Item}
 use Rattle.pgql_tree.specs.declared.ast.Path.{Path}
@@ -9,10 +9,10 @@ use Rattle.pgql_tree.specs.declared.ast.Key.{Key}
 use Rattle.pgql_tree.specs.declared.ast.Ast.{Ast}
 use Rattle.pgql_syntax.specs.declared.query.Tail.{Tail}
 use Rattle.pgql_tree.specs.declared.level.Level.TheVariants.{Or}
-use Rattle.pgql_syntax.specs.Lexemes.{value_of}
+use Rattle.pgql_lexemes.specs.Lexemes.{value_of}
 use Rattle.pgql_syntax.specs.Grammar.{at_of}
-use Rattle.pgql_syntax.specs.Reading.{Parser, ◌>>=◌, ◌>>◌, pure, refuse, unexpected, by_next, take_token, expect, same_kind, read_expr}
-use Rattle.pgql_syntax.specs.Lists.{choose, separated, optional}
+use Rattle.pgql_expr.specs.Reading.{Parser, ◌>>=◌, ◌>>◌, pure, refuse, unexpected, by_next, take_token, expect, same_kind, read_expr}
+use Rattle.pgql_lexemes.specs.Lists.{choose, separated, optional}
 use Rattle.pgql_syntax.specs.Patterns.{read_placed, read_path}
 
 unfoldable pub read_whole_expr : ℕ → Parser AstExpr

@@ -18,25 +18,13 @@
 //! `printed_is_read_back` (`IsReadBack`, specs/RoundTrip.antt).
 #![tactic(auto)]
 
-mod expr;
-mod found;
-mod input;
-mod kind;
-mod leaf;
-mod literal;
 mod part;
 mod pattern;
 mod query;
 mod round_trip;
-mod tables;
-mod terminal;
-mod terminals;
 mod tree;
 
 pub use pgql_print::{print, print_expr};
 pub use pgql_tree::{Ast, AstExpr, EdgePat, Item, Key, Op, Path, Placed, VertexPat};
 pub use round_trip::printed_is_read_back;
 pub use tree::{SyntaxFault, parse};
-
-#[cfg(test)]
-mod tests;

@@ -1,11 +1,10 @@
 //! Lists of parts with a mark between two.
 
-ghost use Rattle.pgql_syntax.specs.Lists.{separated, Shrinks};
-ghost use Rattle.pgql_syntax.specs.Reading.{Parser};
-ghost use Rattle.pgql_syntax.specs.Reads.{Reads};
+ghost use Rattle.pgql_lexemes.specs.Lists.{separated, Shrinks};
+ghost use Rattle.pgql_lexemes.specs.Parsers.{Parser};
+ghost use Rattle.pgql_lexemes.specs.Reads.{Reads};
 
-use crate::input::{Input, Stop};
-use crate::kind::Kind;
+use pgql_lexemes::{Input, Kind, Stop};
 use sqlite_items::Items;
 use std::alloc::Global;
 
@@ -15,14 +14,14 @@ pub trait Part: Sized {
     ghost reading: { Parser Self };
 
     /// Reads it.
-    fn read(alloc: Global, input: &mut Input<'_, '_>) -> Result<Self, Stop>
+    fn read(alloc: Global, input: &mut Input<'_>) -> Result<Self, Stop>
         ensures { Reads (reading input.old) result input.new };
 }
 
 /// `Part {mark Part}`
 pub fn list<T: Part + Drop>(
     alloc: Global,
-    input: &mut Input<'_, '_>,
+    input: &mut Input<'_>,
     mark: Kind,
 ) -> Result<Items<T>, Stop>
     requires { Shrinks T.reading }

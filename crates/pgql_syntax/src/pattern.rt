@@ -2,16 +2,14 @@
 
 ghost use Rattle.std.specs.Prelude.{◌≡◌};
 ghost use Rattle.pgql_syntax.specs.Grammar as grammar;
-ghost use Rattle.pgql_syntax.specs.Lists.{perhaps, separated, many, begins_with};
+ghost use Rattle.pgql_lexemes.specs.Lists.{perhaps, separated, many, begins_with};
 ghost use Rattle.pgql_syntax.specs.Patterns as spec;
-ghost use Rattle.pgql_syntax.specs.Reads.{Reads};
-ghost use Rattle.pgql_syntax.specs.declared.kind.Kind.TheVariants as kind;
+ghost use Rattle.pgql_lexemes.specs.Reads.{Reads};
+ghost use Rattle.pgql_lexemes.specs.declared.kind.Kind.TheVariants as kind;
 
-use crate::input::{Input, Stop};
-use crate::kind::Kind;
-use crate::leaf::placed;
 use crate::part::{Part, list};
 use adfs_base::Name;
+use pgql_lexemes::{Input, Kind, Stop};
 use pgql_tree::{EdgePat, Path, Placed, VertexPat};
 use sqlite_items::Items;
 use std::alloc::Global;
@@ -25,11 +23,11 @@ pub struct Spec {
 
 /// `Name`
 #[tactic(auto, unfolding(crate::specs::Patterns::read_placed))]
-pub fn name(alloc: Global, input: &mut Input<'_, '_>) -> Result<Placed, Stop>
+pub fn name(alloc: Global, input: &mut Input<'_>) -> Result<Placed, Stop>
     ensures { Reads (spec.read_placed input.old) result input.new }
 {
     let t = input.expect(Kind::Name)?;
-    Ok(placed(alloc, &t)?)
+    Ok(t.placed(alloc)?)
 }
 
 /// A word, as a label.
@@ -37,7 +35,7 @@ impl Part for Name {
     ghost reading = { spec.read_label };
 
     #[tactic(auto, unfolding(crate::specs::Patterns::read_label))]
-    fn read(alloc: Global, input: &mut Input<'_, '_>) -> Result<Name, Stop> {
+    fn read(alloc: Global, input: &mut Input<'_>) -> Result<Name, Stop> {
         let t = input.expect_word()?;
         Ok(t.name(alloc)?)
     }
@@ -45,7 +43,7 @@ impl Part for Name {
 
 /// `[":" Name {"|" Name}]`
 #[tactic(auto, using(crate::proofs::Paths::label_shrinks), unfolding(crate::specs::Patterns::read_labels))]
-fn labels(alloc: Global, input: &mut Input<'_, '_>) -> Result<Items<Name>, Stop>
+fn labels(alloc: Global, input: &mut Input<'_>) -> Result<Items<Name>, Stop>
     ensures { Reads (spec.read_labels input.old) result input.new }
 {
     if input.sees(Kind::Colon) {
@@ -57,7 +55,7 @@ fn labels(alloc: Global, input: &mut Input<'_, '_>) -> Result<Items<Name>, Stop>
 }
 
 /// `[Name]`
-fn name_or_none(alloc: Global, input: &mut Input<'_, '_>) -> Result<Option<Placed>, Stop>
+fn name_or_none(alloc: Global, input: &mut Input<'_>) -> Result<Option<Placed>, Stop>
     ensures { Reads (perhaps spec.read_placed kind.Name input.old) result input.new }
 {
     if input.sees(Kind::Name) {
@@ -69,7 +67,7 @@ fn name_or_none(alloc: Global, input: &mut Input<'_, '_>) -> Result<Option<Place
 
 /// `[Name] [":" Name {"|" Name}]`
 #[tactic(auto, unfolding(crate::specs::Patterns::read_spec))]
-fn inside(alloc: Global, input: &mut Input<'_, '_>) -> Result<Spec, Stop>
+fn inside(alloc: Global, input: &mut Input<'_>) -> Result<Spec, Stop>
     ensures { Reads (spec.read_spec input.old) result input.new }
 {
     let name = name_or_none(alloc, input)?;
@@ -81,7 +79,7 @@ fn inside(alloc: Global, input: &mut Input<'_, '_>) -> Result<Spec, Stop>
 #[tactic(auto, unfolding(crate::specs::Patterns::read_enclosed))]
 fn enclosed(
     alloc: Global,
-    input: &mut Input<'_, '_>,
+    input: &mut Input<'_>,
     opens: Kind,
     closes: Kind,
 ) -> Result<(Spec, u32), Stop>
@@ -90,12 +88,12 @@ fn enclosed(
     let first = input.expect(opens)?;
     let inside = inside(alloc, input)?;
     input.expect(closes)?;
-    Ok((inside, first.at()))
+    Ok((inside, first.at))
 }
 
 /// `"(" Spec ")"`
 #[tactic(auto, unfolding(crate::specs::Patterns::read_vertex))]
-fn vertex(alloc: Global, input: &mut Input<'_, '_>) -> Result<VertexPat, Stop>
+fn vertex(alloc: Global, input: &mut Input<'_>) -> Result<VertexPat, Stop>
     ensures { Reads (spec.read_vertex input.old) result input.new }
 {
     let (inside, at) = enclosed(alloc, input, Kind::Open, Kind::Close)?;
@@ -131,7 +129,7 @@ fn arrow(alloc: Global, out: bool, at: u32) -> EdgePat
 
 /// `"[" Spec "]" "-" ">"`
 #[tactic(auto, unfolding(crate::specs::Patterns::read_out))]
-fn edge_out(alloc: Global, input: &mut Input<'_, '_>, at: u32) -> Result<EdgePat, Stop>
+fn edge_out(alloc: Global, input: &mut Input<'_>, at: u32) -> Result<EdgePat, Stop>
     ensures { Reads (spec.read_out at input.old) result input.new }
 {
     let (inside, _) = enclosed(alloc, input, Kind::OpenBracket, Kind::CloseBracket)?;
@@ -141,13 +139,13 @@ fn edge_out(alloc: Global, input: &mut Input<'_, '_>, at: u32) -> Result<EdgePat
 }
 
 /// What stands behind the minus of an edge that leads out.
-fn after_minus(alloc: Global, input: &mut Input<'_, '_>, at: u32) -> Result<EdgePat, Stop>
+fn after_minus(alloc: Global, input: &mut Input<'_>, at: u32) -> Result<EdgePat, Stop>
     ensures { Reads (spec.after_minus at input.old) result input.new }
 {
     let Some(t) = input.first() else {
         return Err(Stop::Unexpected);
     };
-    match t.kind() {
+    match t.kind {
         Kind::Greater => {
             input.take()?;
             Ok(arrow(alloc, true, at))
@@ -159,7 +157,7 @@ fn after_minus(alloc: Global, input: &mut Input<'_, '_>, at: u32) -> Result<Edge
 
 /// `"[" Spec "]" "-"`
 #[tactic(auto, unfolding(crate::specs::Patterns::read_in))]
-fn edge_in(alloc: Global, input: &mut Input<'_, '_>, at: u32) -> Result<EdgePat, Stop>
+fn edge_in(alloc: Global, input: &mut Input<'_>, at: u32) -> Result<EdgePat, Stop>
     ensures { Reads (spec.read_in at input.old) result input.new }
 {
     let (inside, _) = enclosed(alloc, input, Kind::OpenBracket, Kind::CloseBracket)?;
@@ -168,13 +166,13 @@ fn edge_in(alloc: Global, input: &mut Input<'_, '_>, at: u32) -> Result<EdgePat,
 }
 
 /// What stands behind the `<-` of an edge that leads in.
-fn after_less(alloc: Global, input: &mut Input<'_, '_>, at: u32) -> Result<EdgePat, Stop>
+fn after_less(alloc: Global, input: &mut Input<'_>, at: u32) -> Result<EdgePat, Stop>
     ensures { Reads (spec.after_less at input.old) result input.new }
 {
     let Some(t) = input.first() else {
         return Ok(arrow(alloc, false, at));
     };
-    match t.kind() {
+    match t.kind {
         Kind::OpenBracket => edge_in(alloc, input, at),
         _ => Ok(arrow(alloc, false, at)),
     }
@@ -182,21 +180,21 @@ fn after_less(alloc: Global, input: &mut Input<'_, '_>, at: u32) -> Result<EdgeP
 
 /// `"-" ">" | "<" "-" | "-" "[" Spec "]" "-" ">" | "<" "-" "[" Spec "]" "-"`
 #[tactic(auto, unfolding(crate::specs::Patterns::read_edge))]
-fn edge(alloc: Global, input: &mut Input<'_, '_>) -> Result<EdgePat, Stop>
+fn edge(alloc: Global, input: &mut Input<'_>) -> Result<EdgePat, Stop>
     ensures { Reads (spec.read_edge input.old) result input.new }
 {
     let Some(t) = input.first() else {
         return Err(Stop::Unexpected);
     };
-    match t.kind() {
+    match t.kind {
         Kind::Minus => {
             input.take()?;
-            after_minus(alloc, input, t.at())
+            after_minus(alloc, input, t.at)
         }
         Kind::Less => {
             input.take()?;
             input.expect(Kind::Minus)?;
-            after_less(alloc, input, t.at())
+            after_less(alloc, input, t.at)
         }
         _ => Err(Stop::Unexpected),
     }
@@ -204,7 +202,7 @@ fn edge(alloc: Global, input: &mut Input<'_, '_>) -> Result<EdgePat, Stop>
 
 /// `Edge Vertex`
 #[tactic(auto, unfolding(crate::specs::Patterns::read_step))]
-fn step(alloc: Global, input: &mut Input<'_, '_>) -> Result<(EdgePat, VertexPat), Stop>
+fn step(alloc: Global, input: &mut Input<'_>) -> Result<(EdgePat, VertexPat), Stop>
     ensures { Reads (spec.read_step input.old) result input.new }
 {
     let edge = edge(alloc, input)?;
@@ -213,12 +211,12 @@ fn step(alloc: Global, input: &mut Input<'_, '_>) -> Result<(EdgePat, VertexPat)
 }
 
 /// Whether an edge pattern begins with the next token.
-fn sees_edge(input: &Input<'_, '_>) -> bool
+fn sees_edge(input: &Input<'_>) -> bool
     ensures { result ≡ begins_with spec.begins_edge input.now }
 {
     match input.first() {
         None => false,
-        Some(t) => match t.kind() {
+        Some(t) => match t.kind {
             Kind::Minus | Kind::Less => true,
             _ => false,
         },
@@ -226,7 +224,7 @@ fn sees_edge(input: &Input<'_, '_>) -> bool
 }
 
 /// `{Edge Vertex}`
-fn steps(alloc: Global, input: &mut Input<'_, '_>) -> Result<Items<(EdgePat, VertexPat)>, Stop>
+fn steps(alloc: Global, input: &mut Input<'_>) -> Result<Items<(EdgePat, VertexPat)>, Stop>
     ensures { Reads (many spec.read_step spec.begins_edge input.old) result input.new }
 {
     let mut found = Items::new(alloc);
@@ -242,7 +240,7 @@ impl Part for Path {
     ghost reading = { spec.read_path };
 
     #[tactic(auto, unfolding(crate::specs::Patterns::read_path))]
-    fn read(alloc: Global, input: &mut Input<'_, '_>) -> Result<Path, Stop> {
+    fn read(alloc: Global, input: &mut Input<'_>) -> Result<Path, Stop> {
         let first = vertex(alloc, input)?;
         let steps = steps(alloc, input)?;
         Ok(Path { first, steps })

@@ -2,17 +2,16 @@
 
 ghost use Rattle.std.specs.Prelude.{◌≡◌};
 ghost use Rattle.pgql_syntax.specs.Grammar.{at_of};
-ghost use Rattle.pgql_syntax.specs.Lists.{optional, separated};
+ghost use Rattle.pgql_lexemes.specs.Lists.{optional, separated};
 ghost use Rattle.pgql_syntax.specs.Patterns.{read_placed, read_path};
 ghost use Rattle.pgql_syntax.specs.Queries as spec;
-ghost use Rattle.pgql_syntax.specs.Reads.{Reads};
-ghost use Rattle.pgql_syntax.specs.declared.kind.Kind.TheVariants as kind;
+ghost use Rattle.pgql_lexemes.specs.Reads.{Reads};
+ghost use Rattle.pgql_lexemes.specs.declared.kind.Kind.TheVariants as kind;
 
-use crate::expr::nested;
-use crate::input::{Input, Stop};
-use crate::kind::Kind;
 use crate::part::{Part, list};
 use crate::pattern::name;
+use pgql_expr::nested;
+use pgql_lexemes::{Input, Kind, Stop};
 use pgql_tree::{Ast, AstExpr, Item, Key, Level, Path, Placed};
 use sqlite_items::Items;
 use std::alloc::Global;
@@ -30,7 +29,7 @@ pub struct Tail {
 
 /// `Expr`
 #[tactic(auto, unfolding(crate::specs::Queries::read_whole_expr))]
-fn expr(alloc: Global, input: &mut Input<'_, '_>) -> Result<AstExpr, Stop>
+fn expr(alloc: Global, input: &mut Input<'_>) -> Result<AstExpr, Stop>
     ensures { Reads (spec.read_whole_expr 64 input.old) result input.new }
 {
     let x = nested(alloc, input, MOST_HEIGHT + 1, Level::Or)?;
@@ -58,8 +57,8 @@ fn at_of(x: &AstExpr) -> u32
 }
 
 /// `[AS Name]`
-#[tactic(auto, unfolding(crate::specs::Lists::optional))]
-fn as_name(alloc: Global, input: &mut Input<'_, '_>) -> Result<Option<Placed>, Stop>
+#[tactic(auto, unfolding(pgql_lexemes::specs::Lists::optional))]
+fn as_name(alloc: Global, input: &mut Input<'_>) -> Result<Option<Placed>, Stop>
     ensures { Reads (optional read_placed kind.As input.old) result input.new }
 {
     if input.sees(Kind::As) {
@@ -75,7 +74,7 @@ impl Part for Item {
     ghost reading = { spec.read_item 64 };
 
     #[tactic(auto, unfolding(crate::specs::Queries::read_item))]
-    fn read(alloc: Global, input: &mut Input<'_, '_>) -> Result<Item, Stop> {
+    fn read(alloc: Global, input: &mut Input<'_>) -> Result<Item, Stop> {
         let expr = expr(alloc, input)?;
         let name = as_name(alloc, input)?;
         let at = at_of(&expr);
@@ -85,13 +84,13 @@ impl Part for Item {
 
 /// `[ASC | DESC]`, and whether it is DESC.
 #[tactic(auto, unfolding(crate::specs::Queries::read_direction))]
-fn direction(input: &mut Input<'_, '_>) -> Result<bool, Stop>
+fn direction(input: &mut Input<'_>) -> Result<bool, Stop>
     ensures { Reads (spec.read_direction input.old) result input.new }
 {
     let Some(t) = input.first() else {
         return Ok(false);
     };
-    match t.kind() {
+    match t.kind {
         Kind::Asc => {
             input.take()?;
             Ok(false)
@@ -109,7 +108,7 @@ impl Part for Key {
     ghost reading = { spec.read_key 64 };
 
     #[tactic(auto, unfolding(crate::specs::Queries::read_key))]
-    fn read(alloc: Global, input: &mut Input<'_, '_>) -> Result<Key, Stop> {
+    fn read(alloc: Global, input: &mut Input<'_>) -> Result<Key, Stop> {
         let expr = expr(alloc, input)?;
         let down = direction(input)?;
         let at = at_of(&expr);
@@ -119,7 +118,7 @@ impl Part for Key {
 
 /// `[ORDER BY Key {"," Key}]`
 #[tactic(auto, unfolding(crate::specs::Queries::read_keys))]
-fn keys(alloc: Global, input: &mut Input<'_, '_>) -> Result<Items<Key>, Stop>
+fn keys(alloc: Global, input: &mut Input<'_>) -> Result<Items<Key>, Stop>
     ensures { Reads (spec.read_keys 64 input.old) result input.new }
 {
     if input.sees(Kind::Order) {
@@ -133,7 +132,7 @@ fn keys(alloc: Global, input: &mut Input<'_, '_>) -> Result<Items<Key>, Stop>
 
 /// `[DISTINCT]`
 #[tactic(auto, unfolding(crate::specs::Queries::read_distinct))]
-fn distinct(input: &mut Input<'_, '_>) -> Result<bool, Stop>
+fn distinct(input: &mut Input<'_>) -> Result<bool, Stop>
     ensures { Reads (spec.read_distinct input.old) result input.new }
 {
     if input.sees(Kind::Distinct) {
@@ -145,8 +144,8 @@ fn distinct(input: &mut Input<'_, '_>) -> Result<bool, Stop>
 }
 
 /// `[WHERE Expr]`
-#[tactic(auto, unfolding(crate::specs::Lists::optional))]
-fn condition(alloc: Global, input: &mut Input<'_, '_>) -> Result<Option<AstExpr>, Stop>
+#[tactic(auto, unfolding(pgql_lexemes::specs::Lists::optional))]
+fn condition(alloc: Global, input: &mut Input<'_>) -> Result<Option<AstExpr>, Stop>
     ensures { Reads (optional (spec.read_whole_expr 64) kind.Where input.old) result input.new }
 {
     if input.sees(Kind::Where) {
@@ -159,7 +158,7 @@ fn condition(alloc: Global, input: &mut Input<'_, '_>) -> Result<Option<AstExpr>
 
 /// `Number`
 #[tactic(auto, unfolding(crate::specs::Queries::read_number))]
-fn number(input: &mut Input<'_, '_>) -> Result<u64, Stop>
+fn number(input: &mut Input<'_>) -> Result<u64, Stop>
     ensures { Reads (spec.read_number input.old) result input.new }
 {
     let t = input.expect(Kind::Number)?;
@@ -167,8 +166,8 @@ fn number(input: &mut Input<'_, '_>) -> Result<u64, Stop>
 }
 
 /// `[LIMIT Number]`
-#[tactic(auto, unfolding(crate::specs::Lists::optional))]
-fn limit(input: &mut Input<'_, '_>) -> Result<Option<u64>, Stop>
+#[tactic(auto, unfolding(pgql_lexemes::specs::Lists::optional))]
+fn limit(input: &mut Input<'_>) -> Result<Option<u64>, Stop>
     ensures { Reads (optional spec.read_number kind.Limit input.old) result input.new }
 {
     if input.sees(Kind::Limit) {
@@ -181,7 +180,7 @@ fn limit(input: &mut Input<'_, '_>) -> Result<Option<u64>, Stop>
 
 /// `SELECT [DISTINCT] Item {"," Item}`
 #[tactic(auto, unfolding(crate::specs::Queries::read_selection))]
-fn selection(alloc: Global, input: &mut Input<'_, '_>) -> Result<(bool, Items<Item>), Stop>
+fn selection(alloc: Global, input: &mut Input<'_>) -> Result<(bool, Items<Item>), Stop>
     ensures { Reads (spec.read_selection 64 input.old) result input.new }
 {
     input.expect(Kind::Select)?;
@@ -192,7 +191,7 @@ fn selection(alloc: Global, input: &mut Input<'_, '_>) -> Result<(bool, Items<It
 
 /// `MATCH Path {"," Path}`
 #[tactic(auto, using(crate::proofs::Paths::path_shrinks), unfolding(crate::specs::Queries::read_pattern))]
-fn pattern(alloc: Global, input: &mut Input<'_, '_>) -> Result<Items<Path>, Stop>
+fn pattern(alloc: Global, input: &mut Input<'_>) -> Result<Items<Path>, Stop>
     ensures { Reads (spec.read_pattern input.old) result input.new }
 {
     input.expect(Kind::Match)?;
@@ -201,7 +200,7 @@ fn pattern(alloc: Global, input: &mut Input<'_, '_>) -> Result<Items<Path>, Stop
 
 /// `[WHERE Expr] [ORDER BY Key {"," Key}] [LIMIT Number]`
 #[tactic(auto, unfolding(crate::specs::Queries::read_tail))]
-fn clauses(alloc: Global, input: &mut Input<'_, '_>) -> Result<Tail, Stop>
+fn clauses(alloc: Global, input: &mut Input<'_>) -> Result<Tail, Stop>
     ensures { Reads (spec.read_tail 64 input.old) result input.new }
 {
     let condition = condition(alloc, input)?;
@@ -216,7 +215,7 @@ fn clauses(alloc: Global, input: &mut Input<'_, '_>) -> Result<Tail, Stop>
 
 /// A query.
 #[tactic(auto, unfolding(crate::specs::Queries::read_query))]
-fn query(alloc: Global, input: &mut Input<'_, '_>) -> Result<Ast, Stop>
+fn query(alloc: Global, input: &mut Input<'_>) -> Result<Ast, Stop>
     ensures { Reads (spec.read_query 64 input.old) result input.new }
 {
     let (distinct, items) = selection(alloc, input)?;
@@ -233,7 +232,7 @@ fn query(alloc: Global, input: &mut Input<'_, '_>) -> Result<Ast, Stop>
 }
 
 /// The end.
-fn finished(input: &Input<'_, '_>) -> Result<(), Stop>
+fn finished(input: &Input<'_>) -> Result<(), Stop>
     ensures { Reads (spec.finished input.now) result input.now }
 {
     match input.first() {
@@ -244,7 +243,7 @@ fn finished(input: &Input<'_, '_>) -> Result<(), Stop>
 
 /// A query, and nothing after it.
 #[tactic(auto, unfolding(crate::specs::Queries::read_whole))]
-pub fn whole(alloc: Global, input: &mut Input<'_, '_>) -> Result<Ast, Stop>
+pub fn whole(alloc: Global, input: &mut Input<'_>) -> Result<Ast, Stop>
     ensures { Reads (spec.read_whole 64 input.old) result input.new }
 {
     let query = query(alloc, input)?;

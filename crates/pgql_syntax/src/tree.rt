@@ -1,9 +1,8 @@
 //! From text to tree.
 
-ghost use Rattle.std.specs.Prelude.{◌≡◌, ◌≢◌, ◌<◌, ◌≤◌, ◌+◌, ◌^◌, length, map, IfOk, IfErr, MatchResult};
+ghost use Rattle.std.specs.Prelude.{◌≡◌, ◌≢◌, ◌<◌, ◌≤◌, ◌+◌, ◌^◌, length, IfOk, IfErr, IsOk, MatchResult};
 ghost use Rattle.std.specs.List.{AllByRecursion};
 ghost use Rattle.pgql_lexer.specs.Tokens.{tokens};
-ghost use Rattle.pgql_lexer.specs.Tokens as lexed;
 ghost use Rattle.pgql_tree.specs.declared.ast.Ast.{Ast};
 ghost use Rattle.pgql_syntax.specs.declared.tree.SyntaxFault.{SyntaxFault};
 ghost use Rattle.pgql_tree.specs.AllPlaces.{query_places, IsWithin};
@@ -11,13 +10,11 @@ ghost use Rattle.pgql_syntax.specs.Answers.{answer, answer_of, Gives};
 ghost use Rattle.pgql_tree.specs.Literals.{query_literals};
 ghost use Rattle.pgql_syntax.specs.Places.{IsTree, IsFault, place_or};
 ghost use Rattle.pgql_syntax.specs.Queries.{read_whole};
-ghost use Rattle.pgql_syntax.specs.Seen.{seen, IsTokenOf};
+ghost use Rattle.pgql_lexemes.specs.Seen.{lexemes};
 
-use crate::input::{Input, Stop};
 use crate::query::whole;
-use crate::terminal::Terminal;
-use crate::terminals::terminals;
-use pgql_lexer::{LexFault, Token, lex};
+use pgql_lexemes::{Input, Stop};
+use pgql_lexer::{LexFault, check};
 use pgql_tree::Ast;
 use std::alloc::Global;
 
@@ -35,20 +32,23 @@ pub enum SyntaxFault {
 }
 
 /// The place of the next token, or of the end.
-fn place_or(input: &Input<'_, '_>, end: u32) -> u32
+fn place_or(input: &Input<'_>, end: u32) -> u32
     ensures { result ≡ place_or end input.now }
 {
     match input.first() {
         None => end,
-        Some(t) => t.at(),
+        Some(t) => t.at,
     }
 }
 
-/// The tree of tokens that end there.
-fn tree_of(alloc: Global, found: &[Terminal<'_>], end: u32) -> Result<Ast, SyntaxFault>
-    ensures { Gives result (answer_of end (read_whole 64 found.now)) }
+/// The tree of a text that has tokens.
+fn tree_of(alloc: Global, text: &[u8], base: u32) -> Result<Ast, SyntaxFault>
+    requires short { base + length text.now < 2 ^ 32 }
+    requires lexed { IsOk (tokens base text.now) }
+    ensures { Gives result (answer_of (base + length text.now) (read_whole 64 (lexemes base text.now))) }
 {
-    let mut input = Input::new(found);
+    let end = base + text.len() as u32;
+    let mut input = Input::new(text, base);
     match whole(alloc, &mut input) {
         Ok(query) => Ok(query),
         Err(Stop::Unexpected) => Err(SyntaxFault::Unexpected(place_or(&input, end))),
@@ -57,27 +57,13 @@ fn tree_of(alloc: Global, found: &[Terminal<'_>], end: u32) -> Result<Ast, Synta
     }
 }
 
-/// The tree of a text with these tokens.
-fn tree_in(alloc: Global, text: &[u8], base: u32, found: &[Token]) -> Result<Ast, SyntaxFault>
-    requires short { base + length text.now < 2 ^ 32 }
-    requires sound { AllByRecursion (IsTokenOf text.now base) found.now }
-    ensures { Gives result (answer_of (base + length text.now) (read_whole 64 (map (seen text.now base) found.now))) }
-{
-    match terminals(alloc, text, base, found) {
-        Ok(found) => tree_of(alloc, found.as_slice(), base + text.len() as u32),
-        Err(_) => Err(SyntaxFault::NoMemory),
-    }
-}
-
 /// The answer to a text.
-#[tactic(auto, unfolding(crate::specs::Answers::answer))]
 fn answer_to(alloc: Global, text: &[u8], base: u32) -> Result<Ast, SyntaxFault>
     requires { base + length text.now < 2 ^ 32 }
     ensures { Gives result (answer 64 base text.now) }
 {
-    match lex(alloc, text, base) {
-        Ok(found) => tree_in(alloc, text, base, found.as_slice()),
-        Err(LexFault::NoMemory) => Err(SyntaxFault::NoMemory),
+    match check(text, base) {
+        Ok(()) => tree_of(alloc, text, base),
         Err(e) => Err(SyntaxFault::Lex(e)),
     }
 }

@@ -1,6 +1,6 @@
 -- The tree of a text has a path.
 use Rattle.std.proofs.Common.{ℕ, ◌<◌, List, length, arith}
-use Rattle.pgql_syntax.specs.declared.kind.Kind.{Kind}
+use Rattle.pgql_syntax.specs.Kinds.{Kind}
 use Rattle.pgql_syntax.specs.Grammar.{IsPattern, IsQuery, Separated, alone, followed, pattern, query}
 use Rattle.pgql_syntax.specs.Lexemes.{Lexeme}
 use Rattle.pgql_syntax.specs.Places.{IsTree}

@@ -1,7 +1,7 @@
 use Rattle.std.proofs.Common.{◌≡◌, ◌≤◌, length, sym, ap, ◌∙◌, arith, true, false, suc}
 use Rattle.std.proofs.lemmas.Result.{err_from_is_err_and}
-use Rattle.pgql_syntax.specs.Lists.{sees, after}
-use Rattle.pgql_syntax.proofs.Lists.{turn_ends, turn_goes, turn_fails, after_shorter, after_none, both}
+use Rattle.pgql_lexemes.specs.Lists.{sees, after}
+use Rattle.pgql_syntax.proofs.Turn.{turn_ends, turn_goes, turn_fails, after_shorter, after_none, both}
 use Rattle.pgql_syntax.proofs.part.list.Goals as goal
 
 pub returns-in_err-x : goal.returns-in_err-x

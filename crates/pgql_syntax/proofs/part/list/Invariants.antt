@@ -1,5 +1,5 @@
 use Rattle.std.proofs.Common.{◌≡◌, ℕ, ◌≤◌, length}
-use Rattle.pgql_syntax.specs.Lists.{separated, separated_from}
+use Rattle.pgql_lexemes.specs.Lists.{separated, separated_from}
 use Rattle.pgql_syntax.proofs.part.list.Given as goal
 
 abbrev pub invariant-items : goal.invariant-items

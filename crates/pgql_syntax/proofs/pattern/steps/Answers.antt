@@ -1,6 +1,6 @@
 use Rattle.std.proofs.Common.{◌≡◌, ◌≤◌, length, suc, sym, ◌∙◌, arith, true, false}
 use Rattle.std.proofs.lemmas.Result.{err_from_is_err_and}
-use Rattle.pgql_syntax.specs.Lists.{begins_with}
+use Rattle.pgql_lexemes.specs.Lists.{begins_with}
 use Rattle.pgql_syntax.specs.Patterns.{read_step, begins_edge}
 use Rattle.pgql_syntax.proofs.Many.{loop_ends, loop_goes, loop_fails}
 use Rattle.pgql_syntax.proofs.Paths.{step_takes}

@@ -1,5 +1,5 @@
 use Rattle.std.proofs.Common.{◌≡◌, ℕ, ◌≤◌, length}
-use Rattle.pgql_syntax.specs.Lists.{many, many_from}
+use Rattle.pgql_lexemes.specs.Lists.{many, many_from}
 use Rattle.pgql_syntax.specs.Patterns.{read_step, begins_edge}
 use Rattle.pgql_syntax.proofs.pattern.steps.Given as goal
 

@@ -1,11 +1,13 @@
-use Rattle.std.proofs.Common.{List, sym, subst}
-use Rattle.std.specs.List.{AllByRecursion}
-use Rattle.pgql_lexer.specs.declared.token.Token.{Token}
-use Rattle.pgql_syntax.specs.Seen.{IsTokenOf}
-use Rattle.pgql_syntax.proofs.Sound.{all_sound}
+use Rattle.pgql_lexer.specs.Tokens.{tokens}
+use Rattle.pgql_lexemes.proofs.Cursor.{lexed_ok}
+use Rattle.pgql_syntax.proofs.Tokened.{answer_lexed, answer_refused}
 use Rattle.pgql_syntax.proofs.tree.answer_to.Goals as goal
 
-pub tree_in-requires-clause-sound : goal.tree_in-requires-clause-sound
-tree_in-requires-clause-sound c =
-    let P : List Token → Type 0 = AllByRecursion (IsTokenOf c.args.text.now c.args.base) in
-    subst P (sym c.as_slice.ensures.value) (all_sound c.args.base c.args.text.now c.in-Ok.found.items c.in-Ok.ensures.exact)
+pub tree_of-requires-clause-lexed : goal.tree_of-requires-clause-lexed
+tree_of-requires-clause-lexed c = lexed_ok (tokens c.args.base c.args.text.now) c.in-Ok.ensures.0 c.in-Ok.ensures.1
+
+pub returns-in-Ok : goal.returns-in-Ok
+returns-in-Ok c = answer_lexed 64 c.args.base c.args.text.now c.in-Ok.ensures.0 c.in-Ok.ensures.1 c.tree_of.result c.tree_of.ensures
+
+pub returns-in-Err : goal.returns-in-Err
+returns-in-Err c = answer_refused 64 c.args.base c.args.text.now c.in-Err.e c.in-Err.ensures

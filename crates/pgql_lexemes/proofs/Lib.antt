@@ -1,0 +1,5 @@
+pub mod Cursor
+pub mod SameKind
+pub mod Taking
+pub mod Values
+pub mod Sound
