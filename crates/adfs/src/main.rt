@@ -1,23 +1,13 @@
-//! The program: the words of the command line, the real files, and standard output.
+//! The program: the top call over the real files and standard output.
 //!
-//! All that it does stands in `adfs_top::adfs_run_serial`, whose contract says what a run comes to. Here are
-//! only the two ends that no proof can see through: `FileStore` and `StreamSink`. They tell nothing of what a
-//! file or a stream holds, and count their faults as their traits ask for. That the operating system does what
-//! it is asked is trusted.
+//! All that it does stands in `adfs_top::adfs_run_serial`, whose contract says what a run comes to. The two ends
+//! that no proof can see through are `FileStore` and `StreamSink` of `process_io`.
 #![tactic(auto)]
 
-mod file_store;
-mod stream_sink;
-#[cfg(test)]
-mod tests;
-mod words;
-
 use adfs_top::{Status, adfs_run_serial};
-use file_store::FileStore;
+use process_io::{FileStore, StreamSink, words};
 use std::io;
 use std::process::ExitCode;
-use stream_sink::StreamSink;
-use words::words;
 
 fn main(rt: HostRuntime) -> io::Result<ExitCode> {
     let alloc = rt.alloc();

@@ -23,6 +23,3 @@ mod words;
 
 pub use status::Status;
 pub use top::adfs_run_serial;
-
-#[cfg(test)]
-mod tests;

@@ -36,37 +36,39 @@ fn other_keys(keys: &[Value]) -> &[Value]
 fn compare_keys(downs: &[bool], a: &[Value], b: &[Value], texts: &Texts) -> Ordering
     ensures { result ≡ orders.keys_order texts.now downs.now a.now b.now }
 {
-    match downs {
-        [] => Ordering::Equal,
-        [down, others @ ..] => {
-            let order = directed(*down, compare(&first_key(a), &first_key(b), texts));
-            if order.is_ne() {
-                return order;
-            }
-            compare_keys(others, other_keys(a), other_keys(b), texts)
+    let (mut rest, mut xs, mut ys) = (downs, a, b);
+    while let [down, others @ ..] = rest {
+        let order = directed(*down, compare(&first_key(xs), &first_key(ys), texts));
+        if order.is_ne() {
+            return order;
         }
+        rest = others;
+        xs = other_keys(xs);
+        ys = other_keys(ys);
     }
+    Ordering::Equal
 }
 
 /// By the first column that differs; of two rows of which one begins the other, the shorter comes first.
 pub(crate) fn compare_rows(a: &[Value], b: &[Value], texts: &Texts) -> Ordering
     ensures { result ≡ orders.row_order texts.now a.now b.now }
 {
-    match a {
-        [] => match b {
-            [] => Ordering::Equal,
-            [_, ..] => Ordering::Less,
-        },
-        [x, xs @ ..] => match b {
-            [] => Ordering::Greater,
-            [y, ys @ ..] => {
-                let order = compare(x, y, texts);
-                if order.is_ne() {
-                    return order;
-                }
-                compare_rows(xs, ys, texts)
-            }
-        },
+    let (mut xs, mut ys) = (a, b);
+    while let [x, others @ ..] = xs {
+        let Some((y, after)) = ys.split_first() else {
+            return Ordering::Greater;
+        };
+        let order = compare(x, y, texts);
+        if order.is_ne() {
+            return order;
+        }
+        xs = others;
+        ys = after;
+    }
+    if ys.is_empty() {
+        Ordering::Equal
+    } else {
+        Ordering::Less
     }
 }
 

@@ -14,6 +14,3 @@ mod shown;
 pub use arrange::{Arrangement, rows_in_order};
 pub use row::Row;
 pub use shown::Match;
-
-#[cfg(test)]
-mod tests;

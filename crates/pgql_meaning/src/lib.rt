@@ -18,6 +18,3 @@ mod search;
 pub use answer_rows::Row;
 pub use plain::{answer_plain, arrangement_of};
 pub use search::shown;
-
-#[cfg(test)]
-mod tests;

@@ -12,6 +12,3 @@ mod rows;
 pub use refusal::{Refusal, put_refusal};
 pub use reply::put_reply;
 pub use rows::collect;
-
-#[cfg(test)]
-mod tests;

@@ -8,6 +8,3 @@
 mod sort;
 
 pub use sort::sort_by;
-
-#[cfg(test)]
-mod tests;
