@@ -1,10 +1,10 @@
 //! Players in threads of their own.
 ghost use Rattle.std.specs.Prelude.{◌≡◌, ◌≤◌, ◌<◌, All, IfOk, length, map};
 ghost use Rattle.stage_credits.specs.Seats.{AreFreshSeats};
-ghost use Rattle.stage_credits_tests.specs.Players.{IsBuffer, IsReady, IsSmallTable, player_of};
+ghost use Rattle.stage_credits_tests.specs.Players.{IsBuffer, IsReady, IsSmallTable, SitsAt, player_of};
 
 use crate::gauges::Gauges;
-use crate::player::{Buffer, Player};
+use crate::player::{Buffer, Claims, Player};
 use adfs_base::{Charge, NoMemory, Pick};
 use stage_credits::{CreditSeat, Credits};
 use std::alloc::Global;
@@ -37,6 +37,7 @@ fn seated(alloc: Global, seats: Vec<CreditSeat>) -> Result<Vec<Player>, NoMemory
             seat,
             in_hand: None,
             in_work: None,
+            claims: Claims::new(),
         })
         .collect(alloc)?;
     Ok(players)
@@ -139,7 +140,7 @@ impl Player {
     }
 
     /// Gives back all that is in hand, in work or under way to the player's machine.
-    pub fn clear(&mut self, credits: &Credits, gauges: &Gauges)
+    fn clear(&mut self, credits: &Credits, gauges: &Gauges)
         requires ready { IsReady credits.now self.old }
         requires table { IsSmallTable credits.now }
         ensures { IsReady credits.now self.new }
@@ -153,24 +154,37 @@ impl Player {
         }
     }
 
-    /// Charges and posts until the limit is met, and says how often that went well.
-    pub fn fill(&mut self, credits: &Credits, gauges: &Gauges, buffer: Buffer) -> u64
+    /// Charges and posts until the limit is met.
+    fn fill(&mut self, credits: &Credits, gauges: &Gauges, buffer: Buffer)
         requires ready { IsReady credits.now self.old }
         requires buffer { IsBuffer credits.now.setup buffer }
         ensures { IsReady credits.now self.new }
     {
-        let mut count = 0u64;
         for _ in 0..20u32 {
             self.try_post(credits, gauges);
             if self.in_hand.is_none() {
                 match self.charge(credits, buffer) {
-                    Charge::Charged => count = count.saturating_add(1),
+                    Charge::Charged => gauges.fills(),
                     Charge::Full(seen) => gauges.refused(seen),
                     Charge::Moved(_, _) => {}
                 }
             }
         }
-        count
+    }
+
+    /// Charges all credits to each stage of each machine.
+    fn fill_each(&mut self, credits: &Credits, gauges: &Gauges)
+        requires ready { IsReady credits.now self.old }
+        requires table { IsSmallTable credits.now }
+        ensures { IsReady credits.now self.new }
+    {
+        for kind in 0..4u32 {
+            let buffer = Buffer {
+                stage: 1 + kind / 2,
+                machine: kind % 2,
+            };
+            self.fill(credits, gauges, buffer);
+        }
     }
 }
 
@@ -194,5 +208,69 @@ pub fn play_all<R: Threads + Sync>(
             requires { IsReady credits.now player.now × IsSmallTable credits.now }
             ensures { IsReady credits.entry.now player.exit.now }
         { player.play(credits, gauges, seed.wrapping_add(i as u64)) },
+    );
+}
+
+/// All players claim at the same time until no root is left, and retire.
+pub fn claim_all<R: Threads + Sync>(rt: &R, credits: &Credits, players: &mut [Player])
+    requires { All (IsReady credits.now) players.old }
+    ensures { All (SitsAt credits.now) players.new }
+{
+    thread::for_each_mut(
+        rt,
+        players,
+        4,
+        &|_i: usize, player: &mut Player| -> ()
+            requires { IsReady credits.now player.now }
+            ensures { SitsAt credits.entry.now player.exit.now }
+        { player.claim_all(credits) },
+    );
+}
+
+/// All players give back at the same time what they have and what is under way to their machine.
+pub fn clear_all<R: Threads + Sync>(
+    rt: &R,
+    credits: &Credits,
+    gauges: &Gauges,
+    players: &mut [Player],
+)
+    requires ready { All (IsReady credits.now) players.old }
+    requires table { IsSmallTable credits.now }
+    ensures { All (IsReady credits.now) players.new }
+{
+    thread::for_each_mut(
+        rt,
+        players,
+        4,
+        &|_i: usize, player: &mut Player| -> ()
+            requires { IsReady credits.now player.now × IsSmallTable credits.now }
+            ensures { IsReady credits.entry.now player.exit.now }
+        { player.clear(credits, gauges) },
+    );
+}
+
+/// The first of each machine's two players charges all credits of the machine.
+pub fn fill_all<R: Threads + Sync>(
+    rt: &R,
+    credits: &Credits,
+    gauges: &Gauges,
+    players: &mut [Player],
+)
+    requires ready { All (IsReady credits.now) players.old }
+    requires table { IsSmallTable credits.now }
+    ensures { All (IsReady credits.now) players.new }
+{
+    thread::for_each_mut(
+        rt,
+        players,
+        4,
+        &|i: usize, player: &mut Player| -> ()
+            requires { IsReady credits.now player.now × IsSmallTable credits.now }
+            ensures { IsReady credits.entry.now player.exit.now }
+        {
+            if i % 2 == 0 {
+                player.fill_each(credits, gauges);
+            }
+        },
     );
 }

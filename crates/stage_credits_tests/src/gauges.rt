@@ -11,6 +11,7 @@ pub struct Gauges {
     used: [AtomicU64; 8],
     flying: [AtomicU64; 8],
     faults: AtomicU64,
+    filled: AtomicU64,
 }
 
 impl Gauges {
@@ -20,6 +21,7 @@ impl Gauges {
             used: zeros(),
             flying: zeros(),
             faults: AtomicU64::new(0),
+            filled: AtomicU64::new(0),
         }
     }
 
@@ -57,6 +59,15 @@ impl Gauges {
         if seen != self.limit {
             self.fault();
         }
+    }
+
+    /// A credit could be charged once all was given back.
+    pub fn fills(&self) {
+        self.filled.fetch_add(1, Ordering::SeqCst);
+    }
+
+    pub fn filled(&self) -> u64 {
+        self.filled.load(Ordering::SeqCst)
     }
 
     pub fn faults(&self) -> u64 {

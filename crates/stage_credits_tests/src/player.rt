@@ -1,7 +1,7 @@
-ghost use Rattle.std.specs.Prelude.{◌≡◌, ◌≤◌, ◌<◌, ℕ, IsNone, None};
-ghost use Rattle.stage_credits_tests.specs.Players.{IsBuffer, IsReady};
+ghost use Rattle.std.specs.Prelude.{◌≡◌, None, replicate};
+ghost use Rattle.stage_credits_tests.specs.Players.{IsBuffer, IsReady, SitsAt};
 
-use adfs_base::{Charge, Pick};
+use adfs_base::{Charge, Claimed, Pick};
 use stage_credits::{CreditSeat, Credits};
 
 /// A stage and a machine: where an open buffer goes, or where a message in work comes from.
@@ -17,9 +17,52 @@ pub struct Player {
     pub seat: CreditSeat,
     pub in_hand: Option<Buffer>,
     pub in_work: Option<Buffer>,
+    pub claims: Claims,
+}
+
+/// The chunks that a player claimed, as many as there is room for.
+#[derive(Clone, Copy, Debug)]
+pub struct Claims {
+    pub chunks: [(u64, u64); 32],
+    pub count: usize,
+}
+
+impl Claims {
+    pub fn new() -> Claims
+        ensures { result ≡ record { chunks = replicate 32 (0, 0); count = 0 } }
+    {
+        Claims {
+            chunks: [(0, 0); 32],
+            count: 0,
+        }
+    }
+
+    fn keep(&mut self, first: u64, end: u64) {
+        if let Some(chunk) = self.chunks.get_mut(self.count) {
+            *chunk = (first, end);
+            self.count += 1;
+        }
+    }
 }
 
 impl Player {
+    /// Claims roots until the end was seen, and retires.
+    pub fn claim_all(&mut self, credits: &Credits)
+        requires { IsReady credits.now self.old }
+        ensures { SitsAt credits.now self.new }
+    {
+        for _ in 0..10_000u32 {
+            match credits.claim(&mut self.seat) {
+                Claimed::Chunk(first, end) => self.claims.keep(first, end),
+                Claimed::Exhausted(_) => {
+                    credits.retire(&mut self.seat);
+                    return;
+                }
+                Claimed::Moved(_, _) => {}
+            }
+        }
+    }
+
     /// A try to charge for a buffer, which nothing is in hand for.
     pub fn charge(&mut self, credits: &Credits, buffer: Buffer) -> Charge
         requires ready { IsReady credits.now self.old }
