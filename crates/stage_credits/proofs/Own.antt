@@ -1,16 +1,16 @@
 -- Each kind of step keeps what the type of a seat keeps.
-use Rattle.std.proofs.Common.{◌≡◌, ℕ, Bool, true, false, List, [], ◌∷◌, ◌+◌, ◌-◌, ◌<◌, ◌≤◌, ◌==◌, nat_lt, nat_le, if◌then◌else◌, refl, sym, ap, arith, subst, ◌∙◌, ◌⊎◌, inl, inr, ⊎_elim, eq-eqb, ne_eqb, ◌≢◌}
+use Rattle.std.proofs.Common.{◌≡◌, ℕ, Bool, true, false, List, [], ◌∷◌, ◌+◌, ◌-◌, ◌<◌, ◌≤◌, ◌==◌, nat_lt}
+use Rattle.std.proofs.Common.{nat_le, if◌then◌else◌, refl, sym, ap, arith, subst, ◌∙◌, inr, ⊎_elim, eq-eqb, ne_eqb, ◌≢◌}
 use Rattle.std.proofs.lemmas.Bool.{false≢true}
 use Rattle.std.proofs.lemmas.Bool.Decides.{nat_tests}
 use Rattle.std.specs.List.{AllByRecursion}
 use Rattle.atomic_table.specs.Table.{Me}
 use Rattle.stage_credits.specs.declared.view.View.{View}
 use Rattle.stage_credits.specs.declared.view.Way.{Way}
-use Rattle.stage_credits.specs.declared.view.Way.TheVariants.{Fetch, Held, Load}
-use Rattle.stage_credits.specs.declared.setup.Setup.{Setup}
 use Rattle.stage_credits.specs.Layout.{units, sender_of, target_of, roots_of}
 use Rattle.stage_credits.specs.Lists.{times, without}
-use Rattle.stage_credits.specs.Views.{with_note, machine_at, after_exchange, after_look, after_miss, after_charge, after_post, after_pick, after_discharge, after_seek, after_check, after_sight, after_end, after_claim, after_retire, after_mark, after_rise, after_close}
+use Rattle.stage_credits.specs.Views.{with_note, machine_at, after_exchange, after_look, after_miss, after_charge, after_post, after_pick, after_discharge}
+use Rattle.stage_credits.specs.Views.{after_seek, after_check, after_sight, after_end, after_claim, after_retire, after_mark, after_rise, after_close}
 use Rattle.stage_credits.specs.Seats.{IsOfWorker}
 
 -- a seat after a step that left it this view
@@ -90,7 +90,9 @@ module _ (machine seen : ℕ) (v : View) where
 
   -- a seat that is enrolled at all is enrolled as its one worker
   pub enrolled_as : 0 < times machine v.enrolled → IsOfWorker machine seen v → v.enrolled ≡ machine ∷ []
-  enrolled_as some_there of = ⊎_elim (λ (e : v.enrolled ≡ machine ∷ []). e) (λ (e : v.enrolled ≡ []). let none : times machine v.enrolled ≡ 0 = ap (times machine) e in absurd (omega arith)) of.enrolled
+  enrolled_as some_there of =
+      let not_gone : v.enrolled ≡ [] → ⊥ = λ e. let none : times machine v.enrolled ≡ 0 = ap (times machine) e in omega arith in
+      ⊎_elim (λ (e : v.enrolled ≡ machine ∷ []). e) (λ (e : v.enrolled ≡ []). absurd (not_gone e)) of.enrolled
 
   pub IsOfWorker-check : (word found : ℕ) → IsOfWorker machine seen v → IsOfWorker machine seen (after_check v word found)
   IsOfWorker-check word found of = go (found == 0)
@@ -119,7 +121,8 @@ module _ (machine seen : ℕ) (v : View) where
           record { workers = of.workers; closed = of.closed; enrolled = of.enrolled; chunks = of.chunks; ended = of.ended; open_units = of.open_units; work_units = of.work_units }
 
   -- the exchange of `closed` held, or not
-  pub IsOfWorker-close_held : (word expected found : ℕ) → expected ≡ seen → found ≡ expected → IsOfWorker machine seen v → IsOfWorker machine (seen + 1) (after_exchange after_close v word expected found)
+  pub IsOfWorker-close_held : (word expected found : ℕ) → expected ≡ seen → found ≡ expected → IsOfWorker machine seen v
+      → IsOfWorker machine (seen + 1) (after_exchange after_close v word expected found)
   IsOfWorker-close_held word expected found same held of = go (found == expected) (eq-eqb found expected held)
     where
       go : (b : Bool) → b ≡ true → IsOfWorker machine (seen + 1) (if b then after_close v word found else after_miss v word found)

@@ -1,5 +1,6 @@
 -- The steps on cursors, numbers of enrolled workers and `closed` keep the rule, from any state that meets it.
-use Rattle.std.proofs.Common.{◌≡◌, ◌≢◌, ℕ, Bool, true, false, List, [], ◌∷◌, ◌+◌, ◌-◌, ◌/◌, ◌%◌, ◌^◌, ◌<◌, ◌≤◌, ◌==◌, ◌&&◌, nat_lt, nat_le, length, get_or, set, if◌then◌else◌, refl, sym, ap, arith, subst, ◌∙◌, ◌⊎◌, inl, inr, ⊎_elim, le_refl}
+use Rattle.std.proofs.Common.{◌≡◌, ◌≢◌, ℕ, Bool, true, false, List, [], ◌∷◌, ◌+◌, ◌-◌, ◌%◌, ◌^◌, ◌<◌, ◌≤◌, ◌==◌}
+use Rattle.std.proofs.Common.{◌&&◌, nat_lt, nat_le, length, get_or, set, if◌then◌else◌, refl, sym, ap, arith, subst, ◌∙◌, ◌⊎◌, inl, inr, ⊎_elim, le_refl}
 use Rattle.std.proofs.lemmas.Bool.Decides.{nat_tests}
 use mathlib.Core.Logic.{dite}
 use mathlib.Core.Option.{some, none}
@@ -11,8 +12,9 @@ use Rattle.stage_credits.specs.declared.view.View.{View}
 use Rattle.stage_credits.specs.declared.setup.Setup.{Setup}
 use Rattle.stage_credits.specs.Layout.{closed_word, cursor_of, enrolled_of, roots_of}
 use Rattle.stage_credits.specs.Lists.{one_if, times}
-use Rattle.stage_credits.specs.Views.{machine_at, after_exchange, after_look, after_miss, after_seek, after_check, after_sight, after_end, after_claim, after_retire, after_mark, after_rise, after_close, SeeksAt, ChecksAt, SeesAt, ClaimsAt, RetiresAt, ClosesAt}
-use Rattle.stage_credits.specs.Rule.{IsSound, IsWordOf, SawEnds, MarksAreZero, covers}
+use Rattle.stage_credits.specs.Views.{machine_at, after_exchange, after_look, after_miss, after_seek, after_check, after_sight, after_end, after_claim}
+use Rattle.stage_credits.specs.Views.{after_retire, after_mark, after_rise, after_close, SeeksAt, ChecksAt, SeesAt, ClaimsAt, RetiresAt, ClosesAt}
+use Rattle.stage_credits.specs.Rule.{IsSound, IsWordOf, covers}
 use Rattle.stage_credits.specs.Seats.{HasMarkedAll}
 use Rattle.stage_credits.proofs.Decoding.{marked_words}
 use Rattle.stage_credits.proofs.Sums.{same_test, sum_by-part, times-cons_same, times-cons_other}
@@ -40,7 +42,8 @@ IsWordOf-below setup stage word is = go (dec_le 1 stage)
     go (no d) = let i = is.enrolled (omega arith) in omega (arith, i.1, i.2)
 
 -- the view saw the end of a machine whose cursor was found there
-sought : (setup : Setup) (words : List ℕ) (views : List View) (id machine : ℕ) (v : View) → get_elem? views id ≡ some v → 0 < length v.workers → machine < setup.shape.machines → IsSound setup words views
+sought : (setup : Setup) (words : List ℕ) (views : List View) (id machine : ℕ) (v : View) → get_elem? views id ≡ some v → 0 < length v.workers
+    → machine < setup.shape.machines → IsSound setup words views
     → (b : Bool) → nat_le (roots_of setup machine) (get_or words (cursor_of setup machine) 0) ≡ b
     → (let x : ℕ = cursor_of setup machine in let n : ℕ = get_or words (cursor_of setup machine) 0 in
     IsSound setup (set words x n) (set views id (if b then after_end machine v x n else after_look v x n)))
@@ -117,7 +120,8 @@ see_allowed setup slots id me one same_setup s kept homes at small =
       (refl, kept.marks_stay.saw id me.0 at, subst (λ (p : Setup). n ≤ p.shape.stages) (sym same_setup) within, omega arith),
     )
 
-claimed : (setup : Setup) (words : List ℕ) (views : List View) (id machine first end : ℕ) (v : View) → get_elem? views id ≡ some v → 0 < length v.workers → v.setup ≡ setup → machine < setup.shape.machines
+claimed : (setup : Setup) (words : List ℕ) (views : List View) (id machine first end : ℕ) (v : View) → get_elem? views id ≡ some v → 0 < length v.workers
+    → v.setup ≡ setup → machine < setup.shape.machines
     → first < end → end ≤ roots_of setup machine → IsSound setup words views → (b : Bool) → (get_or words (cursor_of setup machine) 0 == first) ≡ b
     → (let x : ℕ = cursor_of setup machine in let n : ℕ = get_or words (cursor_of setup machine) 0 in
     IsSound setup (set words x (either b end n)) (set views id (if b then after_claim (machine_at v x) end v x n else after_miss v x n)))
@@ -127,17 +131,25 @@ claimed setup words views id machine first end v at one same_setup machine_in up
     let same : n ≡ first = same_test n first e in
     let which = machine_at-cursor_of setup v machine same_setup in
     IsSound-claim setup words views id machine first end v (after_claim (machine_at v x) end v x n) at one machine_in refl refl refl refl refl (λ k. refl)
-    (λ m place. let C : ℕ → ℕ → Type 0 = λ j from. one_if ((j == m) && (nat_le from place && nat_lt place end)) + covers m place v.chunks ≡ one_if ((machine == m) && (nat_le first place && nat_lt place end)) + covers m place v.chunks in
+    (λ m place. let C : ℕ → ℕ → Type 0 = λ j from. one_if ((j == m) && (nat_le from place && nat_lt place end)) + covers m place v.chunks ≡ one_if
+    ((machine == m) && (nat_le first place && nat_lt place end)) + covers m place v.chunks in
     subst (λ (j : ℕ). C j n) (sym which) (subst (λ (from : ℕ). C machine from) (sym same) refl))
     same up in_roots kept
 claimed setup words views id machine first end v at one same_setup machine_in up in_roots kept false e = missed setup words views id (cursor_of setup machine) v at one kept
 
-pub claim_allowed : (setup : Setup) (slots id machine first end : ℕ) (me : Me ℕ View) → 0 < length me.0.workers → me.0.setup ≡ setup → machine < setup.shape.machines → first < end → end ≤ roots_of setup machine
+pub claim_allowed : (setup : Setup) (slots id machine first end : ℕ) (me : Me ℕ View) → 0 < length me.0.workers → me.0.setup ≡ setup → machine < setup.shape.machines
+    → first < end → end ≤ roots_of setup machine
     → Allows (holds setup) slots id me (cursor_of setup machine) (λ n. either (n == first) end n) (ClaimsAt (step slots (cursor_of setup machine) first end none) me)
 claim_allowed setup slots id machine first end me one same_setup machine_in up in_roots s kept homes at small =
     let x = cursor_of setup machine in
-    let n = get_or s.words x 0 in
-    (after_exchange (after_claim (machine_at me.0 x) end) me.0 x first n, keeps, tt, claimed setup s.words s.views id machine first end me.0 at one same_setup machine_in up in_roots kept (n == first) refl, refl)
+    let n = get_or s.words x 0 in (
+      after_exchange (after_claim (machine_at me.0 x) end) me.0 x first n,
+      keeps,
+      tt,
+      claimed setup s.words s.views id machine first end me.0 at one same_setup machine_in
+          up in_roots kept (n == first) refl,
+      refl,
+    )
 
 pub retire_allowed : (setup : Setup) (slots id machine : ℕ) (me : Me ℕ View) → 0 < length me.0.workers → machine < setup.shape.machines → me.0.enrolled ≡ machine ∷ [] → 0 < times machine me.0.ended
     → Allows (holds setup) slots id me (enrolled_of setup machine) (λ n. (n + (2 ^ 64 - 1)) % 2 ^ 64) (RetiresAt (step slots (enrolled_of setup machine) 1 0 none) me)
@@ -171,5 +183,11 @@ pub close_allowed : (setup : Setup) (slots id seen : ℕ) (me : Me ℕ View) →
 close_allowed setup slots id seen me one is_closed not_last marked =
     subst (λ (c : ℕ). Allows (holds setup) slots id me (closed_word setup) (λ n. either (n == c) (c + 1) n) (ClosesAt (step slots (closed_word setup) c (c + 1) none) me)) (sym is_closed)
     (λ s kept homes at small.
-    let n = get_or s.words (closed_word setup) 0 in
-    (after_exchange after_close me.0 (closed_word setup) me.0.closed n, keeps, tt, closed_up setup s.words s.views id me.0 at one not_last (marked_words setup me.0 kept.shape not_last marked) kept (n == me.0.closed) refl, (refl, kept.marks_stay.saw id me.0 at)))
+    let n = get_or s.words (closed_word setup) 0 in (
+      after_exchange after_close me.0 (closed_word setup) me.0.closed n,
+      keeps,
+      tt,
+      closed_up setup s.words s.views id me.0 at one not_last
+          (marked_words setup me.0 kept.shape not_last marked) kept (n == me.0.closed) refl,
+      (refl, kept.marks_stay.saw id me.0 at),
+    ))

@@ -1,8 +1,9 @@
 //! The kinds of step, each on one word.
 ghost use Rattle.std.specs.Prelude.{◌≡◌, ◌<◌, ◌≤◌, ◌^◌};
-ghost use Rattle.stage_credits.specs.Layout.{units, stage_start, sender_of, target_of, flying_of, cursor_of, enrolled_of, closed_word, word_count, roots_of, limit_at, IsUnit};
+ghost use Rattle.stage_credits.specs.Layout.{units, stage_start, sender_of, target_of, limit_at, IsUnit};
+ghost use Rattle.stage_credits.specs.Layout.{flying_of, cursor_of, enrolled_of, closed_word, word_count, roots_of};
 ghost use Rattle.stage_credits.specs.Lists.{times};
-ghost use Rattle.stage_credits.specs.Views.{IsWithinLimit, after_look, after_exchange, after_charge, after_post, after_pick, after_discharge, after_end, after_claim, after_retire, after_mark, after_close};
+ghost use Rattle.stage_credits.specs.Views.{after_look, after_exchange, after_charge, after_post, after_pick, after_discharge, after_end, after_claim, after_retire, after_mark, after_close};
 ghost use Rattle.stage_credits.specs.Rule.{IsWordOf};
 ghost use Rattle.stage_credits.specs.Seats.{IsSeatOf, IsSameSeat, with_view, MayCharge, HasMarkedAll};
 ghost use Rattle.stage_credits.specs.Answers.{ClosedTells};

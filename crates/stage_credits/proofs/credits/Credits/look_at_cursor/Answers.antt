@@ -1,5 +1,4 @@
-use Rattle.std.proofs.Common.{◌≡◌, ◌<◌, arith}
-use Rattle.stage_credits.specs.Layout.{cursor_of}
+use Rattle.std.proofs.Common.{◌≡◌, arith}
 use Rattle.stage_credits.specs.Views.{machine_at}
 use Rattle.stage_credits.proofs.Own.{IsOfWorker-stepped, IsOfWorker-seek}
 use Rattle.stage_credits.proofs.Ties.{tied}

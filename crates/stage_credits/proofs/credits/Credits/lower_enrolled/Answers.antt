@@ -13,8 +13,12 @@ fetch_sub-requires c =
     let words = t.words in
     let machine = t.machine in
     let enrolled = of_fields k s c.args.self.now c.args.seat.now c.self.view_is c.seat.view_is (λ _ s'. 0 < times s'.machine s'.view.enrolled) c.requires.enrolled in
-    let ended = of_fields k s c.args.self.now c.args.seat.now c.self.view_is c.seat.view_is (λ _ s'. 0 < times s'.machine s'.view.ended) c.requires.ended in
-    (t.table, rw c.enrolled-word.ensures (omega arith), rw (t.key, c.enrolled-word.ensures) (retire_allowed k.setup k.table.shared.table_id.slots s.seat.id s.machine s.seat.me t.one t.machine (enrolled_as s.machine s.closed s.seat.me.0 enrolled c.seat.invariant.1) ended))
+    let ended = of_fields k s c.args.self.now c.args.seat.now c.self.view_is c.seat.view_is (λ _ s'. 0 < times s'.machine s'.view.ended) c.requires.ended in (
+      t.table,
+      rw c.enrolled-word.ensures (omega arith),
+      rw (t.key, c.enrolled-word.ensures)
+          (retire_allowed k.setup k.table.shared.table_id.slots s.seat.id s.machine s.seat.me t.one t.machine (enrolled_as s.machine s.closed s.seat.me.0 enrolled c.seat.invariant.1) ended),
+    )
 
 pub invariant_of-seat : goal.invariant_of-seat
 invariant_of-seat c =
