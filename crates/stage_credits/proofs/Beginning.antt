@@ -1,5 +1,5 @@
 -- The rule at the start, and where a worker is cut off the fresh_view.
-use Rattle.std.proofs.Common.{◌≡◌, ℕ, List, [], ◌∷◌, ◌++◌, ◌+◌, ◌*◌, ◌<◌, ◌≤◌, length, get_or, set, refl, sym, ap, arith, subst, ◌∙◌, ⊎_elim, zero-mul}
+use Rattle.std.proofs.Common.{◌≡◌, ℕ, List, [], ◌∷◌, ◌++◌, ◌+◌, ◌*◌, ◌≤◌, length, get_or, set, refl, sym, ap, arith, subst, ◌∙◌, ⊎_elim, zero-mul}
 use Rattle.std.specs.Prelude.{sum_by}
 use mathlib.Core.Option.{some, some-ne-none}
 use lib.ListN.{get_elem?}
@@ -7,7 +7,7 @@ use Rattle.atomic_table.proofs.Lists.{at_snoc}
 use Rattle.adfs_base.specs.Shape.{IsShape}
 use Rattle.stage_credits.specs.declared.view.View.{View}
 use Rattle.stage_credits.specs.declared.setup.Setup.{Setup}
-use Rattle.stage_credits.specs.Layout.{units, layer, stage_start, cursor_of, closed_word, roots_of}
+use Rattle.stage_credits.specs.Layout.{units, layer, stage_start, cursor_of, closed_word}
 use Rattle.stage_credits.specs.Lists.{times}
 use Rattle.stage_credits.specs.Rule.{IsSound, units_held, HoldsUnits, IdleHasNothing, covers, SawEnds, MarksAreZero, Each}
 use Rattle.stage_credits.specs.Start.{machines_of_workers, fresh_view, first_view, view_left, view_handed, StartWords}
@@ -80,7 +80,8 @@ one_out_of setup id machine ms s kept at =
     let left = fresh_view setup ms in
     let right = fresh_view setup (machine ∷ []) in
     let cut : (f : View → ℕ) → f left + f right ≡ f v → sum_by f (set s.views id left ++ right ∷ []) ≡ sum_by f s.views = λ f e. sum_by-cut f s.views id v left right at e in
-    let both : (Q : View → Type 0) → Q left → Q right → Each Q s.views → Each Q (set s.views id left ++ right ∷ []) = λ Q l r each. Each-snoc Q (set s.views id left) right r (Each-put Q s.views id left l each) in
+    let both : (Q : View → Type 0) → Q left → Q right → Each Q s.views → Each Q (set s.views id left ++ right ∷ []) =
+    λ Q l r each. Each-snoc Q (set s.views id left) right r (Each-put Q s.views id left l each) in
     let saw = kept.marks_stay.saw id v at in record {
       shape = kept.shape;
       counted = kept.counted;

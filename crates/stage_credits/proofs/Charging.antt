@@ -22,7 +22,8 @@ some_below n (x ∷ xs) some_there = go (nat_lt x n) refl (some_below n xs)
     go false e rest = let none : one_if (nat_lt x n) ≡ 0 = ap one_if e in let r = rest (omega arith) in (r.0, r.1, omega (arith, r.2))
 
 stage_above : (setup : Setup) (words : List ℕ) (views : List View) (id machine stage i : ℕ) (v : View) → get_elem? views id ≡ some v → machine < setup.shape.machines
-    → stage_start setup stage ≤ i → i < units setup → MayCharge setup machine stage v → IsSound setup words views → 1 ≤ get_or words (closed_word setup) 0 → Dec (stage ≤ get_or words (closed_word setup) 0) → get_or words (closed_word setup) 0 + 1 ≤ stage
+    → stage_start setup stage ≤ i → i < units setup → MayCharge setup machine stage v → IsSound setup words views → 1 ≤ get_or words (closed_word setup) 0
+    → Dec (stage ≤ get_or words (closed_word setup) 0) → get_or words (closed_word setup) 0 + 1 ≤ stage
 stage_above setup words views id machine stage i v at machine_in stage_at in_range may kept begun (no d) = omega arith
 stage_above setup words views id machine stage i v at machine_in stage_at in_range may kept begun (yes d) = go (dec_le 1 (times machine v.enrolled))
   where

@@ -47,13 +47,15 @@ ChunksAddUp-saw setup words views id v w at same_chunks saw kept =
     }
 
 -- an enrolled word falls, at a machine whose end was seen
-pub ChunksAddUp-retire : (setup : Setup) (words : List ℕ) (views : List View) (id machine n : ℕ) (v w : View) → get_elem? views id ≡ some v → length words ≡ word_count setup → machine < setup.shape.machines
+pub ChunksAddUp-retire : (setup : Setup) (words : List ℕ) (views : List View) (id machine n : ℕ) (v w : View) → get_elem? views id ≡ some v
+    → length words ≡ word_count setup → machine < setup.shape.machines
     → w.chunks ≡ v.chunks → w.ended ≡ v.ended → 0 < times machine v.ended
     → ChunksAddUp setup words views → ChunksAddUp setup (set words (enrolled_of setup machine) n) (set views id w)
 ChunksAddUp-retire setup words views id machine n v w at count machine_in same_chunks same_ended saw kept =
     let x = enrolled_of setup machine in
     let after = set words x n in
-    let cursor : (m : ℕ) → m < setup.shape.machines → get_or after (cursor_of setup m) 0 ≡ get_or words (cursor_of setup m) 0 = λ m below. get_or-set_other words x (cursor_of setup m) n 0 (omega arith) in
+    let cursor : (m : ℕ) → m < setup.shape.machines → get_or after (cursor_of setup m) 0 ≡ get_or words (cursor_of setup m) 0 =
+    λ m below. get_or-set_other words x (cursor_of setup m) n 0 (omega arith) in
     let sums : (m place : ℕ) → sum_by (λ u. covers m place u.chunks) (set views id w) ≡ sum_by (λ u. covers m place u.chunks) views =
     λ m place. sum_by-same (λ u. covers m place u.chunks) views id v w at (ap (covers m place) same_chunks) in record {
       below = λ m place b lt. let c = cursor m b in sums m place ∙ kept.below m place b (omega arith);
@@ -95,7 +97,8 @@ after_chunk machine lo hi m place high = let b : nat_lt place hi ≡ false = gri
     go false c = refl
 
 -- the cursor goes from lo to hi
-pub ChunksAddUp-claim : (setup : Setup) (words : List ℕ) (views : List View) (id machine lo hi : ℕ) (v w : View) → get_elem? views id ≡ some v → length words ≡ word_count setup → machine < setup.shape.machines
+pub ChunksAddUp-claim : (setup : Setup) (words : List ℕ) (views : List View) (id machine lo hi : ℕ) (v w : View) → get_elem? views id ≡ some v
+    → length words ≡ word_count setup → machine < setup.shape.machines
     → get_or words (cursor_of setup machine) 0 ≡ lo → lo < hi → hi ≤ roots_of setup machine
     → ((m place : ℕ) → covers m place w.chunks ≡ one_if ((machine == m) && (nat_le lo place && nat_lt place hi)) + covers m place v.chunks) → w.ended ≡ v.ended
     → ChunksAddUp setup words views → ChunksAddUp setup (set words (cursor_of setup machine) hi) (set views id w)

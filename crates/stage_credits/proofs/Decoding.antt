@@ -10,7 +10,7 @@ use Rattle.stage_credits.specs.declared.view.View.{View}
 use Rattle.stage_credits.specs.Lists.{times}
 use Rattle.stage_credits.specs.Rule.{IsWordOf}
 use Rattle.stage_credits.specs.Seats.{HasMarkedAll}
-use Rattle.stage_credits.specs.Layout.{units, layer, stage_start, unit_of, sender_of, target_of, limit_at, IsUnit}
+use Rattle.stage_credits.specs.Layout.{stage_start, unit_of, sender_of, target_of, limit_at, IsUnit}
 use Rattle.stage_credits.proofs.Frames.{stage_start-le}
 
 module _ (setup : Setup) (from stage to : ℕ) (shape : IsShape setup.shape) (from_in : from < setup.shape.machines) (to_in : to < setup.shape.machines) where
@@ -37,7 +37,8 @@ module _ (setup : Setup) (from stage to : ℕ) (shape : IsShape setup.shape) (fr
   }
 
 -- a word in the rows of a stage is that of its sender and target there
-pub unit_of-onto : (setup : Setup) (stage word : ℕ) → IsShape setup.shape → stage_start setup stage ≤ word → word < stage_start setup (stage + 1) → word ≡ unit_of setup (sender_of setup word) stage (target_of word)
+pub unit_of-onto : (setup : Setup) (stage word : ℕ) → IsShape setup.shape → stage_start setup stage ≤ word → word < stage_start setup (stage + 1)
+    → word ≡ unit_of setup (sender_of setup word) stage (target_of word)
 unit_of-onto setup stage word shape low high =
     let m = setup.shape.machines in
     let row = word / 16 in

@@ -7,7 +7,7 @@ use lib.ListN.{get_elem?}
 use Rattle.atomic_table.proofs.Lists.{set_else}
 use Rattle.stage_credits.specs.declared.view.View.{View}
 use Rattle.stage_credits.specs.declared.setup.Setup.{Setup}
-use Rattle.stage_credits.specs.Layout.{IsUnit, cursor_of, closed_word, roots_of}
+use Rattle.stage_credits.specs.Layout.{IsUnit, closed_word}
 use Rattle.stage_credits.specs.Lists.{times}
 use Rattle.stage_credits.specs.Rule.{IsSound, units_held, HoldsUnits, IdleHasNothing, covers, SawEnds, MarksAreZero, Each}
 use Rattle.stage_credits.specs.Start.{joined_view, spent_view}
@@ -47,7 +47,8 @@ joins setup id other v w one s kept at apart at' =
     let at_w : get_elem? s.views other ≡ some w = sym (set_else s.views id other both apart) ∙ at' in
     let twice : (f : View → ℕ) → f both ≡ f v + f w → f spent_view ≡ 0 → sum_by f (set half other spent_view) ≡ sum_by f s.views = λ f adds none.
     let a = sum_by-put f s.views id v both at in let b = sum_by-put f half other w spent_view at' in omega arith in
-    let each : (Q : View → Type 0) → Q both → Q spent_view → Each Q s.views → Each Q (set half other spent_view) = λ Q b t old. Each-put Q half other spent_view t (Each-put Q s.views id both b old) in
+    let each : (Q : View → Type 0) → Q both → Q spent_view → Each Q s.views → Each Q (set half other spent_view) =
+    λ Q b t old. Each-put Q half other spent_view t (Each-put Q s.views id both b old) in
     let some_one : 0 < length both.workers = let l = length-both v.workers w.workers in omega arith in record {
       shape = kept.shape;
       counted = kept.counted;
@@ -57,7 +58,8 @@ joins setup id other v w one s kept at apart at' =
             let k = kept.units_add_up.balanced i b in omega arith;
         limited = kept.units_add_up.limited;
         unused = kept.units_add_up.unused;
-        exist = each (HoldsUnits setup) (HoldsUnits-joined_view setup v w (kept.units_add_up.exist id v at) (kept.units_add_up.exist other w at_w)) (λ i holds. absurd (omega arith)) kept.units_add_up.exist;
+        exist = each (HoldsUnits setup) (HoldsUnits-joined_view setup v w (kept.units_add_up.exist id v at) (kept.units_add_up.exist other w at_w))
+            (λ i holds. absurd (omega arith)) kept.units_add_up.exist;
       };
       workers_add_up = record {
         workers = twice (λ u. length u.workers) (length-both v.workers w.workers) refl ∙ kept.workers_add_up.workers;
@@ -103,7 +105,8 @@ no_worker [] e = refl
 no_worker (x ∷ xs) e = absurd (omega arith)
 
 -- the view that workers for all workers has all chunks
-pub all_chunks : (setup : Setup) (words : List ℕ) (views : List View) (id : ℕ) (v : View) (m place : ℕ) → get_elem? views id ≡ some v → length v.workers ≡ setup.shape.machines * setup.shape.workers → IsSound setup words views
+pub all_chunks : (setup : Setup) (words : List ℕ) (views : List View) (id : ℕ) (v : View) (m place : ℕ) → get_elem? views id ≡ some v
+    → length v.workers ≡ setup.shape.machines * setup.shape.workers → IsSound setup words views
     → sum_by (λ u. covers m place u.chunks) views ≡ covers m place v.chunks
 all_chunks setup words views id v m place at all kept =
     sum_by-alone (λ u. length u.workers) (λ u. covers m place u.chunks) views id v at (kept.workers_add_up.workers ∙ sym all)

@@ -76,7 +76,8 @@ MarksStay-saw setup words views id w saw marked kept = record {
 }
 
 -- a word other than `closed` falls
-pub MarksStay-falls : (setup : Setup) (words : List ℕ) (views : List View) (id i n : ℕ) (v w : View) → get_elem? views id ≡ some v → length words ≡ word_count setup → i < closed_word setup → n ≤ get_or words i 0
+pub MarksStay-falls : (setup : Setup) (words : List ℕ) (views : List View) (id i n : ℕ) (v w : View) → get_elem? views id ≡ some v → length words ≡ word_count setup
+    → i < closed_word setup → n ≤ get_or words i 0
     → w.closed ≡ v.closed → w.marks ≡ v.marks → MarksStay setup words views → MarksStay setup (set words i n) (set views id w)
 MarksStay-falls setup words views id i n v w at count in_range falls same_closed same_marks kept =
     let there : i < length words = omega arith in
@@ -103,7 +104,8 @@ MarksStay-close setup words views id closed w count is_closed saw no_marks kept 
       saw = Each-put (λ u. u.closed ≤ get_or after x 0) views id w (omega arith)
           (Each-map (λ u. u.closed ≤ get_or words x 0) (λ u. u.closed ≤ get_or after x 0) views (λ u le. omega arith) kept.saw);
       zero_yet = Each-put (MarksAreZero setup after) views id w (λ word marked. let e : times word w.marks ≡ 0 = ap (times word) no_marks in absurd (omega arith))
-          (Each-map (MarksAreZero setup words) (MarksAreZero setup after) views (λ u q word marked. let z = q word marked in (z.0, other word (in_front word z.0 (dec_le 1 u.closed)) ∙ z.1)) kept.zero_yet);
+          (Each-map (MarksAreZero setup words) (MarksAreZero setup after) views
+          (λ u q word marked. let z = q word marked in (z.0, other word (in_front word z.0 (dec_le 1 u.closed)) ∙ z.1)) kept.zero_yet);
     }
   where
     in_front : {n : ℕ} (word : ℕ) → IsWordOf setup n word → Dec (1 ≤ n) → word < closed_word setup

@@ -1,16 +1,16 @@
 -- Each kind of step keeps what the type of a seat keeps.
-use Rattle.std.proofs.Common.{◌≡◌, ℕ, Bool, true, false, List, [], ◌∷◌, ◌+◌, ◌-◌, ◌<◌, ◌≤◌, ◌==◌, nat_lt, nat_le, if◌then◌else◌, refl, sym, ap, arith, subst, ◌∙◌, ◌⊎◌, inl, inr, ⊎_elim, eq-eqb, ne_eqb, ◌≢◌}
+use Rattle.std.proofs.Common.{◌≡◌, ℕ, Bool, true, false, List, [], ◌∷◌, ◌+◌, ◌-◌, ◌<◌, ◌≤◌, ◌==◌, nat_lt}
+use Rattle.std.proofs.Common.{nat_le, if◌then◌else◌, refl, sym, ap, arith, subst, ◌∙◌, inr, ⊎_elim, eq-eqb, ne_eqb, ◌≢◌}
 use Rattle.std.proofs.lemmas.Bool.{false≢true}
 use Rattle.std.proofs.lemmas.Bool.Decides.{nat_tests}
 use Rattle.std.specs.List.{AllByRecursion}
 use Rattle.atomic_table.specs.Table.{Me}
 use Rattle.stage_credits.specs.declared.view.View.{View}
 use Rattle.stage_credits.specs.declared.view.Way.{Way}
-use Rattle.stage_credits.specs.declared.view.Way.TheVariants.{Fetch, Held, Load}
-use Rattle.stage_credits.specs.declared.setup.Setup.{Setup}
-use Rattle.stage_credits.specs.Layout.{units, sender_of, target_of, cursor_of, enrolled_of, roots_of}
-use Rattle.stage_credits.specs.Lists.{without}
-use Rattle.stage_credits.specs.Views.{with_note, machine_at, after_exchange, after_look, after_miss, after_charge, after_post, after_pick, after_discharge, after_seek, after_check, after_sight, after_claim, after_retire, after_close}
+use Rattle.stage_credits.specs.Layout.{units, sender_of, target_of, roots_of}
+use Rattle.stage_credits.specs.Lists.{times, without}
+use Rattle.stage_credits.specs.Views.{with_note, machine_at, after_exchange, after_look, after_miss, after_charge, after_post, after_pick, after_discharge}
+use Rattle.stage_credits.specs.Views.{after_seek, after_check, after_sight, after_end, after_claim, after_retire, after_mark, after_rise, after_close}
 use Rattle.stage_credits.specs.Seats.{IsOfWorker}
 
 -- a seat after a step that left it this view
@@ -71,46 +71,33 @@ module _ (machine seen : ℕ) (v : View) where
     work_units = AllByRecursion-without (λ unit. target_of unit ≡ machine) word v.work_units of.work_units;
   }
 
-  pub IsOfWorker-seek : (word found : ℕ) → machine_at (cursor_of v.setup 0) word ≡ machine → IsOfWorker machine seen v → IsOfWorker machine seen (after_seek v word found)
-  IsOfWorker-seek word found own of = go (nat_le (roots_of v.setup at) found)
+  pub IsOfWorker-seek : (word found : ℕ) → machine_at v word ≡ machine → IsOfWorker machine seen v → IsOfWorker machine seen (after_seek v word found)
+  IsOfWorker-seek word found own of = go (nat_le (roots_of v.setup (machine_at v word)) found)
     where
-      at : ℕ
-      at = machine_at (cursor_of v.setup 0) word
-
-      go : (b : Bool) → IsOfWorker machine seen (if b then record (after_look v word found) { ended = machine_at (cursor_of v.setup 0) word ∷ v.ended } else after_look v word found)
+      go : (b : Bool) → IsOfWorker machine seen (if b then after_end (machine_at v word) v word found else after_look v word found)
       go true =
           record { workers = of.workers; closed = of.closed; enrolled = of.enrolled; chunks = of.chunks; ended = (own, of.ended); open_units = of.open_units; work_units = of.work_units }
       go false =
           record { workers = of.workers; closed = of.closed; enrolled = of.enrolled; chunks = of.chunks; ended = of.ended; open_units = of.open_units; work_units = of.work_units }
 
-  pub IsOfWorker-claim : (end word found : ℕ) → machine_at (cursor_of v.setup 0) word ≡ machine → IsOfWorker machine seen v → IsOfWorker machine seen (after_claim end v word found)
-  IsOfWorker-claim end word found own of =
+  pub IsOfWorker-claim : (from end word found : ℕ) → from ≡ machine → IsOfWorker machine seen v → IsOfWorker machine seen (after_claim from end v word found)
+  IsOfWorker-claim from end word found own of =
       record { workers = of.workers; closed = of.closed; enrolled = of.enrolled; chunks = (own, of.chunks); ended = of.ended; open_units = of.open_units; work_units = of.work_units }
 
-  -- a worker's seat is enrolled once at most, so it isn't any more
-  pub gone : (m : ℕ) → m ≡ machine → IsOfWorker machine seen v → without m v.enrolled ≡ []
-  gone m own of = ⊎_elim
-      (λ (e : v.enrolled ≡ machine ∷ []).
-      let E : Bool → List ℕ = λ b. if b then [] else machine ∷ [] in
-      ap (without m) e ∙ ap E (eq-eqb m machine own))
-      (λ (e : v.enrolled ≡ []). ap (without m) e)
-      of.enrolled
+  pub IsOfWorker-retire : (word found : ℕ) → IsOfWorker machine seen v → IsOfWorker machine seen (after_retire v word found)
+  IsOfWorker-retire word found of =
+      record { workers = of.workers; closed = of.closed; enrolled = inr refl; chunks = of.chunks; ended = of.ended; open_units = of.open_units; work_units = of.work_units }
 
-  pub IsOfWorker-retire : (word found : ℕ) → machine_at (enrolled_of v.setup 0) word ≡ machine → IsOfWorker machine seen v → IsOfWorker machine seen (after_retire v word found)
-  IsOfWorker-retire word found own of = record {
-    workers = of.workers;
-    closed = of.closed;
-    enrolled = inr (gone (machine_at (enrolled_of v.setup 0) word) own of);
-    chunks = of.chunks;
-    ended = of.ended;
-    open_units = of.open_units;
-    work_units = of.work_units;
-  }
+  -- a seat that is enrolled at all is enrolled as its one worker
+  pub enrolled_as : 0 < times machine v.enrolled → IsOfWorker machine seen v → v.enrolled ≡ machine ∷ []
+  enrolled_as some_there of =
+      let not_gone : v.enrolled ≡ [] → ⊥ = λ e. let none : times machine v.enrolled ≡ 0 = ap (times machine) e in omega arith in
+      ⊎_elim (λ (e : v.enrolled ≡ machine ∷ []). e) (λ (e : v.enrolled ≡ []). absurd (not_gone e)) of.enrolled
 
   pub IsOfWorker-check : (word found : ℕ) → IsOfWorker machine seen v → IsOfWorker machine seen (after_check v word found)
   IsOfWorker-check word found of = go (found == 0)
     where
-      go : (b : Bool) → IsOfWorker machine seen (if b then record (after_look v word found) { marks = word ∷ v.marks } else after_look v word found)
+      go : (b : Bool) → IsOfWorker machine seen (if b then after_mark v word found else after_look v word found)
       go true =
           record { workers = of.workers; closed = of.closed; enrolled = of.enrolled; chunks = of.chunks; ended = of.ended; open_units = of.open_units; work_units = of.work_units }
       go false =
@@ -120,7 +107,7 @@ module _ (machine seen : ℕ) (v : View) where
   pub IsOfWorker-sight_up : (word found : ℕ) → seen < found → IsOfWorker machine seen v → IsOfWorker machine found (after_sight v word found)
   IsOfWorker-sight_up word found up of = go (nat_lt v.closed found) (let c = of.closed in grind (arith, nat_tests))
     where
-      go : (b : Bool) → b ≡ true → IsOfWorker machine found (if b then record (after_look v word found) { closed = found; marks = [] } else after_look v word found)
+      go : (b : Bool) → b ≡ true → IsOfWorker machine found (if b then after_rise v word found else after_look v word found)
       go true e =
           record { workers = of.workers; closed = refl; enrolled = of.enrolled; chunks = of.chunks; ended = of.ended; open_units = of.open_units; work_units = of.work_units }
       go false e = absurd (false≢true e)
@@ -128,13 +115,14 @@ module _ (machine seen : ℕ) (v : View) where
   pub IsOfWorker-sight_same : (word found : ℕ) → found ≤ seen → IsOfWorker machine seen v → IsOfWorker machine seen (after_sight v word found)
   IsOfWorker-sight_same word found same of = go (nat_lt v.closed found) (let c = of.closed in grind (arith, nat_tests))
     where
-      go : (b : Bool) → b ≡ false → IsOfWorker machine seen (if b then record (after_look v word found) { closed = found; marks = [] } else after_look v word found)
+      go : (b : Bool) → b ≡ false → IsOfWorker machine seen (if b then after_rise v word found else after_look v word found)
       go true e = absurd (false≢true (sym e))
       go false e =
           record { workers = of.workers; closed = of.closed; enrolled = of.enrolled; chunks = of.chunks; ended = of.ended; open_units = of.open_units; work_units = of.work_units }
 
   -- the exchange of `closed` held, or not
-  pub IsOfWorker-close_held : (word expected found : ℕ) → expected ≡ seen → found ≡ expected → IsOfWorker machine seen v → IsOfWorker machine (seen + 1) (after_exchange after_close v word expected found)
+  pub IsOfWorker-close_held : (word expected found : ℕ) → expected ≡ seen → found ≡ expected → IsOfWorker machine seen v
+      → IsOfWorker machine (seen + 1) (after_exchange after_close v word expected found)
   IsOfWorker-close_held word expected found same held of = go (found == expected) (eq-eqb found expected held)
     where
       go : (b : Bool) → b ≡ true → IsOfWorker machine (seen + 1) (if b then after_close v word found else after_miss v word found)

@@ -4,7 +4,7 @@ use Rattle.std.proofs.lemmas.List.{get_or-set_same, get_or-set_other}
 use native.Mathlib.Decide.{dec_le}
 use Rattle.stage_credits.specs.declared.view.View.{View}
 use Rattle.stage_credits.specs.declared.setup.Setup.{Setup}
-use Rattle.stage_credits.specs.Layout.{units, layer, stage_start, target_of, IsUnit, word_count, enrolled_of, closed_word}
+use Rattle.stage_credits.specs.Layout.{units, stage_start, target_of, IsUnit, word_count, enrolled_of, closed_word}
 use Rattle.stage_credits.specs.Rule.{IsWordOf, StagesClose}
 use Rattle.stage_credits.proofs.Frames.{StaysBetween, get_or-put, stage_start-le}
 
@@ -35,7 +35,8 @@ StagesClose-used setup words views id i n w count in_range above kept =
           (λ ne b l. kept.used j b l) below low';
     }
   where
-    calm : StagesClose setup words views → i < units setup → i < stage_start setup (get_or words (closed_word setup) 0) → Dec (n ≤ get_or words i 0) → Dec (1 ≤ get_or words (closed_word setup) 0) → n ≡ 0
+    calm : StagesClose setup words views → i < units setup → i < stage_start setup (get_or words (closed_word setup) 0) → Dec (n ≤ get_or words i 0)
+        → Dec (1 ≤ get_or words (closed_word setup) 0) → n ≡ 0
     calm kept b l (yes d) e = let z = kept.used i b l in omega arith
     calm kept b l (no d) (yes e) =
         let a = above (omega arith) e in

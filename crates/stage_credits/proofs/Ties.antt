@@ -1,7 +1,5 @@
 -- What a step asks of the table, from what contracts see of the counters and of the seat.
-use Rattle.std.proofs.Common.{◌≡◌, ℕ, List, [], length, ◌<◌, sym, ap, arith, subst, ◌∙◌}
-use Rattle.stage_credits.specs.declared.view.View.{View}
-use Rattle.stage_credits.specs.declared.setup.Setup.{Setup}
+use Rattle.std.proofs.Common.{◌≡◌, ℕ, List, [], length, ◌<◌, sym, ap, arith, subst}
 use Rattle.stage_credits.specs.declared.credits.Credits.TheInside.{Inside}
 use Rattle.stage_credits.specs.declared.credits.CreditSeat.TheInside as seat
 use Rattle.stage_credits.specs.Layout.{word_count}

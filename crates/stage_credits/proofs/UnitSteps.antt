@@ -10,11 +10,12 @@ use Rattle.stage_credits.specs.declared.view.Way.TheVariants.{Fetch, Held}
 use Rattle.stage_credits.specs.declared.setup.Setup.{Setup}
 use Rattle.stage_credits.specs.Layout.{units, IsUnit, sender_of, target_of, limit_at, stage_start, closed_word}
 use Rattle.stage_credits.specs.Lists.{times, without}
-use Rattle.stage_credits.specs.Views.{with_note, after_exchange, after_look, after_miss, after_charge, after_post, after_pick, after_discharge, IsWithinLimit, LooksAt, ChargesAt, PostsAt, PicksAt, DischargesAt}
+use Rattle.stage_credits.specs.Views.{with_note, after_exchange, after_look, after_miss, after_charge, after_post, after_pick}
+use Rattle.stage_credits.specs.Views.{after_discharge, LooksAt, ChargesAt, PostsAt, PicksAt, DischargesAt}
 use Rattle.stage_credits.specs.Rule.{IsSound, units_held}
 use Rattle.stage_credits.specs.Seats.{MayCharge}
 use Rattle.stage_credits.proofs.Sums.{same_test, sum_by-part, times-cons_same, times-cons_other, times-without_same, times-without_other}
-use Rattle.stage_credits.proofs.Sound.{SameBesideUnits, IsSound-look, IsSound-used, IsSound-flying}
+use Rattle.stage_credits.proofs.Sound.{IsSound-look, IsSound-used, IsSound-flying}
 use Rattle.stage_credits.proofs.Charging.{above_closed}
 
 abbrev pub holds : Setup → State ℕ View → Type 0

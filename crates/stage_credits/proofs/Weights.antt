@@ -1,5 +1,6 @@
 -- Where each root below a cursor is in one chunk, the chunks weigh what the roots do.
-use Rattle.std.proofs.Common.{◌≡◌, ℕ, Bool, true, false, zero, suc, List, [], ◌∷◌, ◌+◌, ◌-◌, ◌*◌, ◌<◌, ◌≤◌, ◌==◌, ◌&&◌, nat_lt, nat_le, min, if◌then◌else◌, get_or, refl, sym, ap, arith, subst, ◌∙◌, zero-mul}
+use Rattle.std.proofs.Common.{◌≡◌, ℕ, Bool, true, false, zero, suc, List, [], ◌∷◌, ◌+◌, ◌-◌, ◌*◌, ◌<◌}
+use Rattle.std.proofs.Common.{◌≤◌, ◌==◌, ◌&&◌, nat_lt, nat_le, min, if◌then◌else◌, get_or, refl, sym, ap, arith, ◌∙◌, zero-mul}
 use Rattle.std.proofs.lemmas.Bool.Decides.{nat_tests}
 use Rattle.std.proofs.lemmas.List.Sums.{sum_by-cons}
 use Rattle.std.specs.List.{range_with_len}
@@ -150,7 +151,8 @@ weighed-claims h machine n [] none = weighed-none h (λ p. 0) n (λ p lt. refl)
 weighed-claims h machine n (s ∷ ss) none =
     let covered : ℕ → Seated → ℕ = λ p t. covers machine p t.view.chunks in
     let more : (p : ℕ) → claims machine p (s ∷ ss) ≡ covered p s + claims machine p ss = λ p. sum_by-cons (covered p) s ss in
-    let f : weighed h (λ p. claims machine p (s ∷ ss)) n ≡ weighed h (λ p. covered p s + claims machine p ss) n = weighed-same h (λ p. claims machine p (s ∷ ss)) (λ p. covered p s + claims machine p ss) n more in
+    let f : weighed h (λ p. claims machine p (s ∷ ss)) n ≡ weighed h (λ p. covered p s + claims machine p ss) n =
+    weighed-same h (λ p. claims machine p (s ∷ ss)) (λ p. covered p s + claims machine p ss) n more in
     let b = weighed-both h (λ p. covered p s) (λ p. claims machine p ss) n in
     let x = weighed-covers h machine n s.view.chunks (λ p le. let z = none p le in let m = more p in omega (arith, z, m)) in
     let r = weighed-claims h machine n ss (λ p le. let z = none p le in let m = more p in omega (arith, z, m)) in

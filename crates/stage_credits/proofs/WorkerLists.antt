@@ -45,7 +45,8 @@ times-machines_of_workers-elsewhere x each machine r (suc n) ne fits =
     let i = times-machines_of_workers-elsewhere x each machine (r + 1) n ne (omega arith) in
     omega (arith, none, b, i)
 
-one_machine_more : (x each machines : ℕ) → times x (machines_of_workers each 0 (suc machines * each)) ≡ times x (machines_of_workers each 0 (machines * each)) + times x (machines_of_workers each (machines * each + 0) each)
+one_machine_more : (x each machines : ℕ)
+    → times x (machines_of_workers each 0 (suc machines * each)) ≡ times x (machines_of_workers each 0 (machines * each)) + times x (machines_of_workers each (machines * each + 0) each)
 one_machine_more x each machines =
     let C : ℕ → ℕ → ℕ = λ j c. times x (machines_of_workers each j c) in
     let a : C 0 (suc machines * each) ≡ C 0 (machines * each + each) = ap (C 0) (suc-mul machines each) in
@@ -68,7 +69,8 @@ times-machines_of_workers x each (suc machines) below =
     dite (ℕ_discrete x machines)
     (λ (e : x ≡ machines).
     let r = times-machines_of_workers-none x each machines (omega arith) in
-    let h : times x (machines_of_workers each (machines * each + 0) each) ≡ each = subst (λ (y : ℕ). times y (machines_of_workers each (machines * each + 0) each) ≡ each) (sym e) (times-machines_of_workers-here each machines 0 each (omega arith)) in
+    let h : times x (machines_of_workers each (machines * each + 0) each) ≡ each =
+    subst (λ (y : ℕ). times y (machines_of_workers each (machines * each + 0) each) ≡ each) (sym e) (times-machines_of_workers-here each machines 0 each (omega arith)) in
     omega (arith, m, r, h))
     (λ (ne : x ≢ machines).
     let r = times-machines_of_workers x each machines (omega arith) in

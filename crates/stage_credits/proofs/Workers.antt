@@ -1,5 +1,5 @@
 -- Each kind of change keeps the sums of the workers.
-use Rattle.std.proofs.Common.{◌≡◌, ◌≢◌, ℕ, List, [], ◌+◌, ◌<◌, length, get_or, set, sym, ap, arith, subst, ◌∙◌}
+use Rattle.std.proofs.Common.{◌≡◌, ◌≢◌, ℕ, List, ◌+◌, ◌<◌, length, get_or, set, sym, ap, arith, subst, ◌∙◌}
 use Rattle.std.proofs.lemmas.List.{get_or-set_same, get_or-set_other}
 use Rattle.std.specs.Prelude.{sum_by}
 use mathlib.Core.Option.{some}
@@ -30,7 +30,8 @@ WorkersAddUp-same setup words after views id v w at stays some_one same_workers 
 }
 
 -- a worker of the machine retires
-pub WorkersAddUp-retire : (setup : Setup) (words : List ℕ) (views : List View) (id machine n : ℕ) (v w : View) → get_elem? views id ≡ some v → length words ≡ word_count setup → machine < setup.shape.machines
+pub WorkersAddUp-retire : (setup : Setup) (words : List ℕ) (views : List View) (id machine n : ℕ) (v w : View) → get_elem? views id ≡ some v
+    → length words ≡ word_count setup → machine < setup.shape.machines
     → 0 < length v.workers → w.workers ≡ v.workers → n + 1 ≡ get_or words (enrolled_of setup machine) 0 → times machine w.enrolled + 1 ≡ times machine v.enrolled
     → ((k : ℕ) → k ≢ machine → times k w.enrolled ≡ times k v.enrolled)
     → WorkersAddUp setup words views → WorkersAddUp setup (set words (enrolled_of setup machine) n) (set views id w)

@@ -1,7 +1,7 @@
 -- Where each counter stands among the words of the table.
 -- First come the `used` words, a row of them for each stage and sender, then the `flying` words in the same rows, then the cursors, then the numbers of enrolled workers, and last the word `closed`.
 -- A row is 16 words long and has one for each target, at most 8. So words of two senders are more than 64 bytes apart, which is a line of the cache. Cursors and numbers of workers are 8 words apart.
-use Rattle.std.specs.Prelude.{◌≡◌, ℕ, ◌+◌, ◌*◌, ◌/◌, ◌%◌, ◌<◌, ◌≤◌, slice_index}
+use Rattle.std.specs.Prelude.{ℕ, ◌+◌, ◌*◌, ◌/◌, ◌%◌, ◌<◌, ◌≤◌, slice_index}
 use Rattle.adfs_base.specs.Shape.{Extents, limit_of}
 use Rattle.adfs_base.specs.declared.step_answers.Word.{Word}
 use Rattle.adfs_base.specs.declared.step_answers.Word.TheVariants.{Enrolled, Used}

@@ -1,12 +1,13 @@
 -- What contracts see of the counters and of a seat, and what calls ask for.
-use Rattle.std.specs.Prelude.{◌≡◌, ◌≢◌, ℕ, List, [], ◌∷◌, ◌+◌, ◌-◌, ◌/◌, ◌*◌, ◌==◌, if◌then◌else◌, ◌<◌, ◌≤◌, ◌⊎◌, map, length, All, sum_by, slice_index}
+use Rattle.std.specs.Prelude.{◌≡◌, ℕ, List, [], ◌∷◌, ◌+◌, ◌-◌, ◌/◌, ◌*◌, ◌==◌, if◌then◌else◌, ◌<◌, ◌≤◌, ◌⊎◌, map, length, All, sum_by, slice_index}
 use Rattle.std.specs.List.{range_with_len, AllByRecursion}
 use Rattle.atomic_table.specs.Seated.{TableId}
+use Rattle.atomic_table.specs.Table.{Me}
 use Rattle.adfs_base.specs.declared.step_answers.Word.{Word}
 use Rattle.stage_credits.specs.Layout.{stage_start, sender_of, target_of, place_of, stage_of, IsWord}
 use Rattle.stage_credits.specs.Lists.{times, count_below}
 use Rattle.stage_credits.specs.Rule.{covers}
-use Rattle.stage_credits.specs.Start.{fresh_view}
+use Rattle.stage_credits.specs.Start.{fresh_view, machines_of_workers}
 use Rattle.stage_credits.specs.declared.setup.Setup.{Setup}
 use Rattle.stage_credits.specs.declared.view.View.{View}
 use Rattle.stage_credits.specs.declared.view.Chunk.{Chunk}
@@ -70,6 +71,12 @@ fresh_seat credits worker =
 -- one seat for each worker, in order
 abbrev pub AreFreshSeats : Counters → List Seated → Type 0
 AreFreshSeats credits seats = seats ≡ map (fresh_seat credits) (range_with_len 0 (credits.setup.shape.machines * credits.setup.shape.workers))
+
+-- the seat that stands for all workers from this one on
+abbrev pub StandsFrom : Counters → ℕ → TableId → Me ℕ View → Type 0
+StandsFrom credits worker table me =
+    let shape = credits.setup.shape in
+    (table ≡ credits.table) × (me ≡ (fresh_view credits.setup (machines_of_workers shape.workers worker (shape.machines * shape.workers - worker)), []))
 
 -- they are all seats of these counters
 pub record AreAllSeats (credits : Counters) (seats : List Seated) : Type 0 where

@@ -2,7 +2,7 @@
 -- Each function takes the view before, the step's word and the number that it found there.
 use Rattle.std.specs.Prelude.{◌≡◌, ℕ, [], ◌∷◌, ◌+◌, ◌-◌, ◌/◌, ◌==◌, ◌<◌, ◌≤◌, nat_lt, nat_le, if◌then◌else◌}
 use Rattle.atomic_table.specs.Table.{Me, Step}
-use Rattle.stage_credits.specs.Layout.{units, cursor_of, enrolled_of, roots_of, limit_at}
+use Rattle.stage_credits.specs.Layout.{units, cursor_of, roots_of, limit_at}
 use Rattle.stage_credits.specs.Lists.{without}
 use Rattle.stage_credits.specs.declared.view.View.{View}
 use Rattle.stage_credits.specs.declared.view.Way.{Way}
@@ -33,31 +33,25 @@ after_pick v word found = record (with_note Held v word found) { work_units = (w
 abbrev pub after_discharge : View → ℕ → ℕ → View
 after_discharge v word found = record (with_note Fetch v word found) { work_units = without word v.work_units }
 
--- the machine of a cursor, or of a number of enrolled workers
-abbrev pub machine_at : ℕ → ℕ → ℕ
-machine_at first word = (word - first) / 8
+-- the view saw the end of a machine's roots
+abbrev pub after_end : ℕ → View → ℕ → ℕ → View
+after_end machine v word found = record (after_look v word found) { ended = machine ∷ v.ended }
 
--- a load of a cursor. Where it found the end, the view saw the end
-abbrev pub after_seek : View → ℕ → ℕ → View
-after_seek v word found =
-    let machine = machine_at (cursor_of v.setup 0) word in
-    if nat_le (roots_of v.setup machine) found then record (after_look v word found) { ended = machine ∷ v.ended } else after_look v word found
+-- the roots from the number found up to this end are the view's
+abbrev pub after_claim : ℕ → ℕ → View → ℕ → ℕ → View
+after_claim machine end v word found = record (with_note Held v word found) { chunks = (record { machine = machine; first = found; end = end }) ∷ v.chunks }
 
--- the chunk from the number found to this end is the view's
-abbrev pub after_claim : ℕ → View → ℕ → ℕ → View
-after_claim end v word found =
-    record (with_note Held v word found) { chunks = (record { machine = machine_at (cursor_of v.setup 0) word; first = found; end = end }) ∷ v.chunks }
-
+-- the worker is enrolled no longer
 abbrev pub after_retire : View → ℕ → ℕ → View
-after_retire v word found = record (with_note Fetch v word found) { enrolled = without (machine_at (enrolled_of v.setup 0) word) v.enrolled }
+after_retire v word found = record (with_note Fetch v word found) { enrolled = [] }
 
--- a load of a word of the stage that the view saw closed. Where it found 0, the word is marked
-abbrev pub after_check : View → ℕ → ℕ → View
-after_check v word found = if found == 0 then record (after_look v word found) { marks = word ∷ v.marks } else after_look v word found
+-- the word was seen at 0
+abbrev pub after_mark : View → ℕ → ℕ → View
+after_mark v word found = record (after_look v word found) { marks = word ∷ v.marks }
 
--- a load of `closed`. Where it is greater than what the view saw, the marks are dropped
-abbrev pub after_sight : View → ℕ → ℕ → View
-after_sight v word found = if nat_lt v.closed found then record (after_look v word found) { closed = found; marks = [] } else after_look v word found
+-- `closed` was seen to have risen, so the marks are dropped
+abbrev pub after_rise : View → ℕ → ℕ → View
+after_rise v word found = record (after_look v word found) { closed = found; marks = [] }
 
 -- one stage more is closed, and the marks are dropped
 abbrev pub after_close : View → ℕ → ℕ → View
@@ -66,6 +60,19 @@ after_close v word found = record (with_note Held v word found) { closed = found
 -- what an exchange leaves: of what it does where it holds, the number expected, and the number found
 abbrev pub after_exchange : (View → ℕ → ℕ → View) → View → ℕ → ℕ → ℕ → View
 after_exchange held v word expected found = if found == expected then held v word found else after_miss v word found
+
+-- A load of a cursor, of a word that may be marked, and of `closed`: what it does depends on what it finds. A cursor tells its machine
+abbrev pub machine_at : View → ℕ → ℕ
+machine_at v word = (word - cursor_of v.setup 0) / 8
+
+abbrev pub after_seek : View → ℕ → ℕ → View
+after_seek v word found = if nat_le (roots_of v.setup (machine_at v word)) found then after_end (machine_at v word) v word found else after_look v word found
+
+abbrev pub after_check : View → ℕ → ℕ → View
+after_check v word found = if found == 0 then after_mark v word found else after_look v word found
+
+abbrev pub after_sight : View → ℕ → ℕ → View
+after_sight v word found = if nat_lt v.closed found then after_rise v word found else after_look v word found
 
 -- what the rule tells of a number that was found in a `used` word
 abbrev pub IsWithinLimit : View → ℕ → ℕ → Type 0
@@ -87,10 +94,10 @@ abbrev pub DischargesAt : Step ℕ → Me ℕ View → ℕ → Me ℕ View → T
 DischargesAt s me found after = after ≡ (after_discharge me.0 s.word found, me.1)
 
 abbrev pub SeeksAt : Step ℕ → Me ℕ View → ℕ → Me ℕ View → Type 0
-SeeksAt s me found after = (after ≡ (after_seek me.0 s.word found, me.1)) × (found ≤ roots_of me.0.setup (machine_at (cursor_of me.0.setup 0) s.word))
+SeeksAt s me found after = (after ≡ (after_seek me.0 s.word found, me.1)) × (found ≤ roots_of me.0.setup (machine_at me.0 s.word))
 
 abbrev pub ClaimsAt : Step ℕ → Me ℕ View → ℕ → Me ℕ View → Type 0
-ClaimsAt s me found after = after ≡ (after_exchange (after_claim s.second) me.0 s.word s.first found, me.1)
+ClaimsAt s me found after = after ≡ (after_exchange (after_claim (machine_at me.0 s.word) s.second) me.0 s.word s.first found, me.1)
 
 abbrev pub RetiresAt : Step ℕ → Me ℕ View → ℕ → Me ℕ View → Type 0
 RetiresAt s me found after = after ≡ (after_retire me.0 s.word found, me.1)

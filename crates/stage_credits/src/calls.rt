@@ -1,10 +1,10 @@
 //! The calls of a worker: each tries once.
-ghost use Rattle.std.specs.Prelude.{◌≡◌, ◌<◌, ◌≤◌, ℕ, []};
-ghost use Rattle.stage_credits.specs.Layout.{unit_of, flying_of, enrolled_of, closed_word, place_of, stage_of, IsWord};
+ghost use Rattle.std.specs.Prelude.{◌≡◌, ◌<◌, ◌≤◌, ℕ};
+ghost use Rattle.stage_credits.specs.Layout.{unit_of, flying_of, enrolled_of, place_of, stage_of, IsWord};
 ghost use Rattle.stage_credits.specs.Lists.{times};
-ghost use Rattle.stage_credits.specs.Views.{after_post, after_discharge, after_retire, after_sight};
+ghost use Rattle.stage_credits.specs.Views.{after_post, after_discharge, after_retire};
 ghost use Rattle.stage_credits.specs.Seats.{IsSeatOf, IsSameSeat, MayCharge, HasMarkedAll};
-ghost use Rattle.stage_credits.specs.Answers.{ChargeTells, PickTells, ClaimTells, MarkTells, CloseTells};
+ghost use Rattle.stage_credits.specs.Answers.{ChargeTells, PickTells, ClaimTells, MarkTells, CloseTells, ClosedTells};
 
 use crate::credits::{CreditSeat, Credits};
 use adfs_base::{Charge, Claimed, Closing, Marked, Pick, ROOT_CHUNK, Word};
@@ -109,7 +109,6 @@ impl Credits {
         requires enrolled { 0 < times seat.old.machine seat.old.view.enrolled }
         requires ended { 0 < times seat.old.machine seat.old.view.ended }
         ensures seat { IsSameSeat seat.old seat.new }
-        ensures gone { seat.new.view.enrolled ≡ [] }
         ensures told { (found : ℕ) × (seat.new.view ≡ after_retire seat.old.view (enrolled_of self.now.setup seat.old.machine) found) }
     {
         self.lower_enrolled(seat);
@@ -153,9 +152,7 @@ impl Credits {
     pub fn closed(&self, seat: &mut CreditSeat) -> u32
         requires seat { IsSeatOf self.now seat.old }
         ensures seat { IsSameSeat seat.old seat.new }
-        ensures told { seat.new.view ≡ after_sight seat.old.view (closed_word self.now.setup) result }
-        ensures never_falls { seat.old.view.closed ≤ result }
-        ensures within { result ≤ self.now.setup.shape.stages }
+        ensures told { ClosedTells self.now.setup seat.old.view result seat.new.view }
     {
         self.look_at_closed(seat)
     }

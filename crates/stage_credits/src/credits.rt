@@ -4,6 +4,7 @@ ghost use Rattle.stage_credits.specs.Seats.{IsOfWorker};
 use crate::rule::CreditRule;
 use crate::setup::Setup;
 use crate::view::View;
+use adfs_base::Shape;
 use atomic_table::{Seat, Table};
 use std::alloc::Global;
 use std::marker::Model;
@@ -25,6 +26,15 @@ impl Model for Credits {
     ghost view = { λ c. record { table = c.table.shared.table_id; setup = c.setup } };
 
     ghost invariant = { λ c. (c.table.shared.key ≡ c.setup) × (c.table.shared.table_id.words ≡ word_count c.setup) × (c.table.shared.table_id.slots ≡ 0) };
+}
+
+impl Credits {
+    /// The shape of the run.
+    pub fn shape(&self) -> &Shape
+        ensures { result.now ≡ self.now.setup.shape }
+    {
+        &self.setup.shape
+    }
 }
 
 /// The seat of one worker, through which it steps on the counters. A contract sees it as a `Seated`.

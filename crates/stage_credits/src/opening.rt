@@ -1,8 +1,8 @@
 //! How the counters are made, with a seat for each worker.
 ghost use Rattle.std.specs.Prelude.{◌≡◌, ℕ, ◌+◌, ◌*◌, ◌/◌, ◌-◌, ◌<◌, [], ◌∷◌, length, slice_index, IfOk};
 ghost use Rattle.adfs_base.specs.Shape.{IsShape};
-ghost use Rattle.stage_credits.specs.Start.{StartWords, fresh_view, machines_of_workers};
-ghost use Rattle.stage_credits.specs.Seats.{fresh_seat, AreFreshSeats};
+ghost use Rattle.stage_credits.specs.Start.{StartWords};
+ghost use Rattle.stage_credits.specs.Seats.{fresh_seat, AreFreshSeats, StandsFrom};
 
 use crate::credits::{CreditSeat, Credits};
 use crate::rule::OneOut;
@@ -65,7 +65,7 @@ impl Credits {
 
     /// Deals a seat to each worker, from the one that stands for all.
     fn deal(&self, alloc: Global, first: &mut Seat<u8, View>) -> Result<Vec<CreditSeat>, NoMemory>
-        requires { (first.old.table_id ≡ self.now.table) × (first.old.me ≡ (fresh_view self.now.setup (machines_of_workers self.now.setup.shape.workers 0 (self.now.setup.shape.machines * self.now.setup.shape.workers)), [])) }
+        requires { StandsFrom self.now 0 first.old.table_id first.old.me }
         ensures { IfOk result (λ seats. AreFreshSeats self.now seats.items) }
     {
         let count = self.setup.workers();
@@ -80,8 +80,8 @@ impl Credits {
     /// The seat of the next worker.
     fn next_seat(&self, first: &mut Seat<u8, View>, worker: u32) -> CreditSeat
         requires worker { worker < self.now.setup.shape.machines * self.now.setup.shape.workers }
-        requires seat { (first.old.table_id ≡ self.now.table) × (first.old.me ≡ (fresh_view self.now.setup (machines_of_workers self.now.setup.shape.workers worker (self.now.setup.shape.machines * self.now.setup.shape.workers - worker)), [])) }
-        ensures seat { (first.new.table_id ≡ self.now.table) × (first.new.me ≡ (fresh_view self.now.setup (machines_of_workers self.now.setup.shape.workers (worker + 1) (self.now.setup.shape.machines * self.now.setup.shape.workers - (worker + 1))), [])) }
+        requires seat { StandsFrom self.now worker first.old.table_id first.old.me }
+        ensures seat { StandsFrom self.now (worker + 1) first.new.table_id first.new.me }
         ensures result { result ≡ fresh_seat self.now worker }
     {
         let machine = worker / self.setup.shape.workers();

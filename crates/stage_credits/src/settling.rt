@@ -54,7 +54,9 @@ impl Credits {
     /// The cursors, by the seat that stands for all workers.
     fn read_out(self, whole: Seat<u8, View>) -> [u64; 8]
         requires { (whole.table_id ≡ self.table) × (length whole.me.0.workers ≡ self.setup.shape.machines * self.setup.shape.workers) }
-        ensures claims { (m : ℕ) → (place : ℕ) → m < self.setup.shape.machines → (place < slice_index result m → covers m place whole.me.0.chunks ≡ 1) × (slice_index result m ≤ place → covers m place whole.me.0.chunks ≡ 0) }
+        ensures claims { (m : ℕ) → (place : ℕ) → m < self.setup.shape.machines
+            → (place < slice_index result m → covers m place whole.me.0.chunks ≡ 1)
+            × (slice_index result m ≤ place → covers m place whole.me.0.chunks ≡ 0) }
         ensures within { (m : ℕ) → m < self.setup.shape.machines → slice_index result m ≤ roots_of self.setup m }
         ensures past { (m : ℕ) → self.setup.shape.machines ≤ m → slice_index result m ≡ 0 }
     {

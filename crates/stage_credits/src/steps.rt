@@ -1,10 +1,12 @@
 //! The kinds of step, each on one word.
-ghost use Rattle.std.specs.Prelude.{◌≡◌, ◌<◌, ◌≤◌, ◌^◌, []};
-ghost use Rattle.stage_credits.specs.Layout.{units, stage_start, sender_of, target_of, flying_of, cursor_of, enrolled_of, closed_word, word_count, roots_of, limit_at, IsUnit};
+ghost use Rattle.std.specs.Prelude.{◌≡◌, ◌<◌, ◌≤◌, ◌^◌};
+ghost use Rattle.stage_credits.specs.Layout.{units, stage_start, sender_of, target_of, limit_at, IsUnit};
+ghost use Rattle.stage_credits.specs.Layout.{flying_of, cursor_of, enrolled_of, closed_word, word_count, roots_of};
 ghost use Rattle.stage_credits.specs.Lists.{times};
-ghost use Rattle.stage_credits.specs.Views.{IsWithinLimit, after_look, after_exchange, after_charge, after_post, after_pick, after_discharge, after_seek, after_claim, after_retire, after_check, after_sight, after_close};
+ghost use Rattle.stage_credits.specs.Views.{after_look, after_exchange, after_charge, after_post, after_pick, after_discharge, after_end, after_claim, after_retire, after_mark, after_close};
 ghost use Rattle.stage_credits.specs.Rule.{IsWordOf};
-ghost use Rattle.stage_credits.specs.Seats.{IsSeatOf, with_view, MayCharge, HasMarkedAll};
+ghost use Rattle.stage_credits.specs.Seats.{IsSeatOf, IsSameSeat, with_view, MayCharge, HasMarkedAll};
+ghost use Rattle.stage_credits.specs.Answers.{ClosedTells};
 
 use crate::credits::{CreditSeat, Credits};
 use crate::rule::{Check, Claim, Close, Discharge, Look, Post, Raise, Retire, Seek, Sight, Take};
@@ -75,8 +77,9 @@ impl Credits {
     /// Loads the cursor of the seat's machine.
     pub(crate) fn look_at_cursor(&self, seat: &mut CreditSeat) -> u64
         requires seat { IsSeatOf self.now seat.old }
-        ensures view { seat.new ≡ with_view seat.old (after_seek seat.old.view (cursor_of self.now.setup seat.old.machine) result) }
         ensures within { result ≤ roots_of self.now.setup seat.old.machine }
+        ensures before { result < roots_of self.now.setup seat.old.machine → seat.new ≡ with_view seat.old (after_look seat.old.view (cursor_of self.now.setup seat.old.machine) result) }
+        ensures end { roots_of self.now.setup seat.old.machine ≤ result → seat.new ≡ with_view seat.old (after_end seat.old.machine seat.old.view (cursor_of self.now.setup seat.old.machine) result) }
     {
         let word = self.setup.cursor(seat.machine);
         self.table
@@ -89,7 +92,7 @@ impl Credits {
         requires seat { IsSeatOf self.now seat.old }
         requires order { first < end }
         requires end { end ≤ roots_of self.now.setup seat.old.machine }
-        ensures { seat.new ≡ with_view seat.old (after_exchange (after_claim end) seat.old.view (cursor_of self.now.setup seat.old.machine) first result) }
+        ensures { seat.new ≡ with_view seat.old (after_exchange (after_claim seat.old.machine end) seat.old.view (cursor_of self.now.setup seat.old.machine) first result) }
     {
         let word = self.setup.cursor(seat.machine);
         self.table
@@ -102,8 +105,7 @@ impl Credits {
         requires seat { IsSeatOf self.now seat.old }
         requires enrolled { 0 < times seat.old.machine seat.old.view.enrolled }
         requires ended { 0 < times seat.old.machine seat.old.view.ended }
-        ensures view { seat.new ≡ with_view seat.old (after_retire seat.old.view (enrolled_of self.now.setup seat.old.machine) result) }
-        ensures gone { seat.new.view.enrolled ≡ [] }
+        ensures { seat.new ≡ with_view seat.old (after_retire seat.old.view (enrolled_of self.now.setup seat.old.machine) result) }
     {
         let word = self.setup.enrolled(seat.machine);
         self.table
@@ -115,7 +117,8 @@ impl Credits {
     pub(crate) fn check(&self, seat: &mut CreditSeat, word: u64) -> u64
         requires seat { IsSeatOf self.now seat.old }
         requires word { IsWordOf self.now.setup seat.old.view.closed word }
-        ensures { seat.new ≡ with_view seat.old (after_check seat.old.view word result) }
+        ensures zero { result ≡ 0 → seat.new ≡ with_view seat.old (after_mark seat.old.view word result) }
+        ensures busy { 0 < result → seat.new ≡ with_view seat.old (after_look seat.old.view word result) }
     {
         self.table
             .shared
@@ -125,9 +128,8 @@ impl Credits {
     /// Loads `closed`.
     pub(crate) fn look_at_closed(&self, seat: &mut CreditSeat) -> u32
         requires seat { IsSeatOf self.now seat.old }
-        ensures view { seat.new ≡ with_view seat.old (after_sight seat.old.view (closed_word self.now.setup) result) }
-        ensures never_falls { seat.old.view.closed ≤ result }
-        ensures within { result ≤ self.now.setup.shape.stages }
+        ensures seat { IsSameSeat seat.old seat.new }
+        ensures told { ClosedTells self.now.setup seat.old.view result seat.new.view }
     {
         let word = self.setup.closed();
         let found = self

@@ -1,4 +1,4 @@
-use Rattle.std.proofs.Common.{◌<◌, arith}
+use Rattle.std.proofs.Common.{arith}
 use Rattle.stage_credits.specs.Rule.{IsWordOf}
 use Rattle.stage_credits.proofs.Own.{IsOfWorker-stepped, IsOfWorker-check}
 use Rattle.stage_credits.proofs.Ties.{tied, of_fields}

@@ -40,8 +40,10 @@ loop-other-preserved c =
       of = subst (λ (xs : List Seated). All P xs) (sym c.in-Some-pop.ensures.rest) (All-take P _ c.loop-other.seats.items c.loop-other.invariant.of);
       chunks = λ m place.
           let k = c.loop-other.invariant.chunks m place in
-          let a : covers m place c.join_seat.new.seat.me.0.chunks ≡ covers m place mine.chunks + covers m place theirs.chunks = ap (λ (v : View). covers m place v.chunks) now ∙ covers-append m place mine.chunks theirs.chunks in
-          let b : claims m place c.loop-other.seats.items ≡ claims m place left + covers m place c.in-Some-pop.other.view.chunks = ap (claims m place) c.in-Some-pop.ensures.items ∙ claims-snoc m place left c.in-Some-pop.other in
+          let a : covers m place c.join_seat.new.seat.me.0.chunks ≡ covers m place mine.chunks + covers m place theirs.chunks =
+          ap (λ (v : View). covers m place v.chunks) now ∙ covers-append m place mine.chunks theirs.chunks in
+          let b : claims m place c.loop-other.seats.items ≡ claims m place left + covers m place c.in-Some-pop.other.view.chunks =
+          ap (claims m place) c.in-Some-pop.ensures.items ∙ claims-snoc m place left c.in-Some-pop.other in
           let v : covers m place theirs.chunks ≡ covers m place c.in-Some-pop.other.view.chunks = ap (λ (s : Seated). covers m place s.view.chunks) c.other.view_is in
           omega (arith, k, a, b, v);
     }

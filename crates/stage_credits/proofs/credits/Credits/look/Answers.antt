@@ -18,4 +18,5 @@ load-requires c =
 pub invariant_of-seat : goal.invariant_of-seat
 invariant_of-seat c =
     let s = c.seat.inside in
-    IsOfWorker-stepped s.machine s.closed s.closed s.seat.me c.load.new.seat.me _ c.seat.invariant c.load.ensures.2.0 (IsOfWorker-with_note s.machine s.closed s.seat.me.0 Load c.args.word c.load.result)
+    IsOfWorker-stepped s.machine s.closed s.closed s.seat.me c.load.new.seat.me _ c.seat.invariant c.load.ensures.2.0
+    (IsOfWorker-with_note s.machine s.closed s.seat.me.0 Load c.args.word c.load.result)

@@ -1,5 +1,4 @@
-use Rattle.std.proofs.Common.{◌≡◌, ◌<◌, ◌≤◌, ◌∙◌, arith}
-use Rattle.stage_credits.specs.Layout.{closed_word}
+use Rattle.std.proofs.Common.{arith}
 use Rattle.stage_credits.proofs.Own.{IsOfWorker-stepped, IsOfWorker-sight_up, IsOfWorker-sight_same}
 use Rattle.stage_credits.proofs.Ties.{tied}
 use Rattle.stage_credits.proofs.StageSteps.{see_allowed}

@@ -1,5 +1,4 @@
-use Rattle.std.proofs.Common.{◌≡◌, ◌<◌, arith}
-use Rattle.stage_credits.specs.Layout.{cursor_of}
+use Rattle.std.proofs.Common.{◌≡◌, arith}
 use Rattle.stage_credits.specs.Views.{machine_at}
 use Rattle.stage_credits.proofs.Own.{IsOfWorker-stepped, IsOfWorker-seek}
 use Rattle.stage_credits.proofs.Ties.{tied}
@@ -20,6 +19,6 @@ invariant_of-seat c =
     let k = c.self.inside in
     let s = c.seat.inside in
     let t = tied k s c.args.self.now c.args.seat.now c.self.view_is c.seat.view_is c.self.invariant c.seat.invariant c.requires.seat in
-    let which : machine_at (cursor_of s.seat.me.0.setup 0) c.cursor-word.result ≡ s.machine = rw (t.setup, c.cursor-word.ensures) (machine_at-cursor_of k.setup s.machine) in
+    let which : machine_at s.seat.me.0 c.cursor-word.result ≡ s.machine = rw c.cursor-word.ensures (machine_at-cursor_of k.setup s.seat.me.0 s.machine t.setup) in
     IsOfWorker-stepped s.machine s.closed s.closed s.seat.me c.load.new.seat.me _ c.seat.invariant c.load.ensures.2.0
     (IsOfWorker-seek s.machine s.closed s.seat.me.0 c.cursor-word.result c.load.result which)

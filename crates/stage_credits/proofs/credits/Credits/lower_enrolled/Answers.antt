@@ -1,12 +1,8 @@
-use Rattle.std.proofs.Common.{◌≡◌, ◌<◌, ℕ, ap, ◌∙◌, arith}
-use Rattle.atomic_table.specs.Table.{Me}
-use Rattle.stage_credits.specs.declared.view.View.{View}
-use Rattle.stage_credits.specs.Layout.{enrolled_of}
+use Rattle.std.proofs.Common.{◌<◌, arith}
 use Rattle.stage_credits.specs.Lists.{times}
-use Rattle.stage_credits.specs.Views.{machine_at}
-use Rattle.stage_credits.proofs.Own.{IsOfWorker-stepped, IsOfWorker-retire, gone}
+use Rattle.stage_credits.proofs.Own.{IsOfWorker-stepped, IsOfWorker-retire, enrolled_as}
 use Rattle.stage_credits.proofs.Ties.{tied, of_fields}
-use Rattle.stage_credits.proofs.StageSteps.{retire_allowed, machine_at-enrolled_of}
+use Rattle.stage_credits.proofs.StageSteps.{retire_allowed}
 use Rattle.stage_credits.proofs.credits.Credits.lower_enrolled.Goals as goal
 
 pub fetch_sub-requires : goal.fetch_sub-requires
@@ -17,22 +13,15 @@ fetch_sub-requires c =
     let words = t.words in
     let machine = t.machine in
     let enrolled = of_fields k s c.args.self.now c.args.seat.now c.self.view_is c.seat.view_is (λ _ s'. 0 < times s'.machine s'.view.enrolled) c.requires.enrolled in
-    let ended = of_fields k s c.args.self.now c.args.seat.now c.self.view_is c.seat.view_is (λ _ s'. 0 < times s'.machine s'.view.ended) c.requires.ended in
-    (t.table, rw c.enrolled-word.ensures (omega arith), rw (t.key, c.enrolled-word.ensures) (retire_allowed k.setup k.table.shared.table_id.slots s.seat.id s.machine s.seat.me t.one t.setup t.machine enrolled ended))
+    let ended = of_fields k s c.args.self.now c.args.seat.now c.self.view_is c.seat.view_is (λ _ s'. 0 < times s'.machine s'.view.ended) c.requires.ended in (
+      t.table,
+      rw c.enrolled-word.ensures (omega arith),
+      rw (t.key, c.enrolled-word.ensures)
+          (retire_allowed k.setup k.table.shared.table_id.slots s.seat.id s.machine s.seat.me t.one t.machine (enrolled_as s.machine s.closed s.seat.me.0 enrolled c.seat.invariant.1) ended),
+    )
 
 pub invariant_of-seat : goal.invariant_of-seat
 invariant_of-seat c =
-    let k = c.self.inside in
     let s = c.seat.inside in
-    let t = tied k s c.args.self.now c.args.seat.now c.self.view_is c.seat.view_is c.self.invariant c.seat.invariant c.requires.seat in
-    let which : machine_at (enrolled_of s.seat.me.0.setup 0) c.enrolled-word.result ≡ s.machine = rw (t.setup, c.enrolled-word.ensures) (machine_at-enrolled_of k.setup s.machine) in
     IsOfWorker-stepped s.machine s.closed s.closed s.seat.me c.fetch_sub.new.seat.me _ c.seat.invariant c.fetch_sub.ensures.2
-    (IsOfWorker-retire s.machine s.closed s.seat.me.0 c.enrolled-word.result c.fetch_sub.result which)
-
-pub returns-clause-gone : goal.returns-clause-gone
-returns-clause-gone c =
-    let k = c.self.inside in
-    let s = c.seat.inside in
-    let t = tied k s c.args.self.now c.args.seat.now c.self.view_is c.seat.view_is c.self.invariant c.seat.invariant c.requires.seat in
-    let which : machine_at (enrolled_of s.seat.me.0.setup 0) c.enrolled-word.result ≡ s.machine = rw (t.setup, c.enrolled-word.ensures) (machine_at-enrolled_of k.setup s.machine) in
-    ap (λ (m : Me ℕ View). m.0.enrolled) c.fetch_sub.ensures.2 ∙ gone s.machine s.closed s.seat.me.0 (machine_at (enrolled_of s.seat.me.0.setup 0) c.enrolled-word.result) which c.seat.invariant.1
+    (IsOfWorker-retire s.machine s.closed s.seat.me.0 c.enrolled-word.result c.fetch_sub.result)

@@ -1,4 +1,4 @@
-use Rattle.std.proofs.Common.{◌≡◌, ◌<◌, ◌+◌, ◌-◌, arith}
+use Rattle.std.proofs.Common.{◌≡◌, ◌+◌, ◌-◌, arith}
 use Rattle.stage_credits.specs.Layout.{units, target_of, IsUnit}
 use Rattle.stage_credits.specs.Views.{after_pick}
 use Rattle.stage_credits.proofs.Own.{IsOfWorker-stepped, IsOfWorker-exchange, IsOfWorker-pick}

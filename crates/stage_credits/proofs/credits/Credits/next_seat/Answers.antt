@@ -14,7 +14,8 @@ split_seat-seat-requires c =
     let same : setup ≡ on.key = sym (c.self.invariant.0 ∙ ap (λ (x : Counters). x.setup) c.self.view_is) in
     let total = setup.shape.machines * setup.shape.workers in
     let rest = machines_of_workers setup.shape.workers (c.args.worker + 1) (total - (c.args.worker + 1)) in
-    let next : machines_of_workers setup.shape.workers c.args.worker (total - c.args.worker) ≡ c.args.worker / setup.shape.workers ∷ rest = machines_of_workers-next setup.shape.workers c.args.worker total c.requires.worker in
+    let next : machines_of_workers setup.shape.workers c.args.worker (total - c.args.worker) ≡ c.args.worker / setup.shape.workers ∷ rest =
+    machines_of_workers-next setup.shape.workers c.args.worker total c.requires.worker in
     let mine : c.args.first.now.me.0 ≡ fresh_view setup (c.args.worker / setup.shape.workers ∷ rest) = ap (λ (m : View × List (ℕ × ℕ)). m.0) c.requires.seat.1 ∙ ap (fresh_view setup) next in (
       c.requires.seat.0 ∙ sym (ap (λ (x : Counters). x.table) c.self.view_is),
       (let w = c.self.invariant.1 in omega arith),
@@ -26,7 +27,8 @@ returns-clause-seat c =
     let setup = c.args.self.now.setup in
     let total = setup.shape.machines * setup.shape.workers in
     let rest = machines_of_workers setup.shape.workers (c.args.worker + 1) (total - (c.args.worker + 1)) in
-    let next : machines_of_workers setup.shape.workers c.args.worker (total - c.args.worker) ≡ c.args.worker / setup.shape.workers ∷ rest = machines_of_workers-next setup.shape.workers c.args.worker total c.requires.worker in
+    let next : machines_of_workers setup.shape.workers c.args.worker (total - c.args.worker) ≡ c.args.worker / setup.shape.workers ∷ rest =
+    machines_of_workers-next setup.shape.workers c.args.worker total c.requires.worker in
     let M : Type 0 = View × List (ℕ × ℕ) in
     let old : c.args.first.now.me ≡ (fresh_view setup (c.args.worker / setup.shape.workers ∷ rest), []) = c.requires.seat.1 ∙ ap (λ (ms : List ℕ). let m : M = (fresh_view setup ms, []) in m) next in
     (c.split_seat-seat.ensures.0 ∙ c.requires.seat.0, c.split_seat-seat.ensures.2 ∙ ap (λ (m : M). let n : M = (view_left m.0, m.1) in n) old)

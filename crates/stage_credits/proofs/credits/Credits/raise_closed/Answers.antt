@@ -1,5 +1,4 @@
-use Rattle.std.proofs.Common.{◌≡◌, ◌<◌, ◌≤◌, ◌+◌, ◌∙◌, arith}
-use Rattle.stage_credits.specs.Layout.{closed_word}
+use Rattle.std.proofs.Common.{◌<◌, ◌+◌, ◌∙◌, arith}
 use Rattle.stage_credits.specs.Seats.{HasMarkedAll}
 use Rattle.stage_credits.proofs.Own.{IsOfWorker-stepped, IsOfWorker-close_held, IsOfWorker-close_missed}
 use Rattle.stage_credits.proofs.Ties.{tied, of_fields}
@@ -14,8 +13,12 @@ compare_exchange-found-requires c =
     let words = t.words in
     let below = of_fields k s c.args.self.now c.args.seat.now c.self.view_is c.seat.view_is (λ k' s'. s'.view.closed < k'.setup.shape.stages) c.requires.stage in
     let marked = of_fields k s c.args.self.now c.args.seat.now c.self.view_is c.seat.view_is (λ k' s'. HasMarkedAll k'.setup s'.view) c.requires.marked in
-    let seen = c.from-seen.ensures ∙ c.seat.invariant.1.closed in
-    (t.table, rw c.closed-word.ensures.value (omega arith), rw (t.key, c.closed-word.ensures.value) (close_allowed k.setup k.table.shared.table_id.slots s.seat.id c.from-seen.result s.seat.me t.one seen below marked))
+    let seen = c.from-seen.ensures ∙ c.seat.invariant.1.closed in (
+      t.table,
+      rw c.closed-word.ensures.value (omega arith),
+      rw (t.key, c.closed-word.ensures.value)
+          (close_allowed k.setup k.table.shared.table_id.slots s.seat.id c.from-seen.result s.seat.me t.one seen below marked),
+    )
 
 pub invariant_of-seat : goal.invariant_of-seat
 invariant_of-seat c =

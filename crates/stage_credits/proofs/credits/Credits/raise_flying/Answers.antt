@@ -1,5 +1,5 @@
-use Rattle.std.proofs.Common.{◌≡◌, ◌<◌, ap, arith, ◌∙◌, sym}
-use Rattle.stage_credits.specs.Layout.{units, flying_of}
+use Rattle.std.proofs.Common.{◌<◌, arith}
+use Rattle.stage_credits.specs.Layout.{units}
 use Rattle.stage_credits.specs.Lists.{times}
 use Rattle.stage_credits.proofs.Own.{IsOfWorker-stepped, IsOfWorker-post}
 use Rattle.stage_credits.proofs.Ties.{tied, of_fields}

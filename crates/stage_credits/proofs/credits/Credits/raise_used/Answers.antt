@@ -31,4 +31,5 @@ invariant_of-seat c =
     let sender' = of_fields k s c.args.self.now c.args.seat.now c.self.view_is c.seat.view_is (λ k' s'. sender_of k'.setup c.args.unit ≡ s'.machine) c.requires.unit.1 in
     let sender : sender_of s.seat.me.0.setup c.args.unit ≡ s.machine = rw t.setup sender' in
     IsOfWorker-stepped s.machine s.closed s.closed s.seat.me c.compare_exchange.new.seat.me _ c.seat.invariant c.compare_exchange.ensures.2
-    (IsOfWorker-exchange s.machine s.closed s.seat.me.0 after_charge c.args.unit c.args.seen c.compare_exchange.result (IsOfWorker-charge s.machine s.closed s.seat.me.0 c.args.unit c.compare_exchange.result sender))
+    (IsOfWorker-exchange s.machine s.closed s.seat.me.0 after_charge c.args.unit c.args.seen c.compare_exchange.result
+    (IsOfWorker-charge s.machine s.closed s.seat.me.0 c.args.unit c.compare_exchange.result sender))

@@ -3,7 +3,6 @@ use Rattle.std.proofs.lemmas.List.{length-set, get_or-set_other}
 use Rattle.std.specs.Slots.{slots_items}
 use Rattle.stage_credits.specs.declared.setup.Setup.{Setup}
 use Rattle.stage_credits.specs.Layout.{cursor_of, roots_of}
-use Rattle.stage_credits.specs.Rule.{covers}
 use Rattle.stage_credits.specs.Seats.{Counters}
 use Rattle.stage_credits.proofs.Frames.{get_or-put}
 use Rattle.stage_credits.proofs.Joining.{found_at, all_chunks}

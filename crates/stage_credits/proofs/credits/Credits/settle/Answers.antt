@@ -1,6 +1,5 @@
-use Rattle.std.proofs.Common.{◌≡◌, ◌≤◌, ◌<◌, ℕ, get_or, subst, sym, ap, ◌∙◌}
-use Rattle.stage_credits.specs.Rule.{covers}
-use Rattle.stage_credits.specs.Seats.{ClaimsMeet, claims}
+use Rattle.std.proofs.Common.{sym, ◌∙◌}
+use Rattle.stage_credits.specs.Seats.{ClaimsMeet}
 use Rattle.stage_credits.proofs.Weights.{ChunksWeigh-meet}
 use Rattle.stage_credits.proofs.credits.Credits.settle.Goals as goal
 

@@ -1,0 +1,23 @@
+-- The players of fresh seats are ready.
+use Rattle.std.proofs.Common.{◌≡◌, ℕ, List, ◌+◌, ◌*◌, ◌/◌, ◌<◌, length, get_or, map, refl, sym, subst, arith, ◌∙◌}
+use Rattle.std.specs.List.{All, range_with_len}
+use Rattle.std.proofs.lemmas.List.Elements.{All-map}
+use Rattle.std.proofs.lemmas.List.FromFn.{length-range_with_len, get_or-range_with_len}
+use Rattle.std.proofs.lemmas.Nat.{div_below}
+use Rattle.stage_credits.specs.Seats.{Counters, Seated, fresh_seat, AreFreshSeats}
+use Rattle.stage_credits_tests.specs.Players.{IsReady, player_of}
+
+ready : (credits : Counters) (worker : ℕ) → 0 < credits.setup.shape.workers → worker < credits.setup.shape.machines * credits.setup.shape.workers → IsReady credits (player_of (fresh_seat credits worker))
+ready credits worker some_worker below =
+    let machine : worker / credits.setup.shape.workers < credits.setup.shape.machines = div_below worker credits.setup.shape.workers credits.setup.shape.machines some_worker below in
+    record { seat = record { table = refl; setup = refl; machine = machine }; enrolled = refl; is_open = tt; is_work = tt; open_units = refl; work_units = refl }
+
+pub all_ready : (credits : Counters) (seats : List Seated) → 0 < credits.setup.shape.workers → AreFreshSeats credits seats → All (IsReady credits) (map player_of seats)
+all_ready credits seats some_worker fresh =
+    let count = credits.setup.shape.machines * credits.setup.shape.workers in
+    let P : Seated → Type 0 = λ s. IsReady credits (player_of s) in
+    let each : All (λ worker. P (fresh_seat credits worker)) (range_with_len 0 count) = λ k d lt.
+    let n = length-range_with_len 0 count in
+    let at : get_or (range_with_len 0 count) k d ≡ k = get_or-range_with_len 0 count k d (omega arith) ∙ omega arith in
+    subst (λ (worker : ℕ). P (fresh_seat credits worker)) (sym at) (ready credits k some_worker (omega arith)) in
+    All-map (IsReady credits) player_of seats (subst (All P) (sym fresh) (All-map P (fresh_seat credits) (range_with_len 0 count) each))
