@@ -1,0 +1,4 @@
+pub mod Calls
+pub mod Queue
+pub mod Shared
+pub mod View
