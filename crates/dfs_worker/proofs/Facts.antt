@@ -1,6 +1,6 @@
 -- What a worker's guards tell.
-use Rattle.std.proofs.Common.{◌≡◌, ℕ, ◌+◌, ◌<◌, ◌≤◌, Bool, true, false, not, List, [], ◌∷◌, Option, Some, None, is_some, refl, sym, ap, ◌∙◌, subst, arith}
-use Rattle.std.specs.Prelude.{nat_eq, nat_le}
+use Rattle.std.proofs.Common.{◌≡◌, ℕ, ◌+◌, ◌≤◌, Bool, true, false, not, List, [], ◌∷◌, Option, Some, None, is_some, refl, ap, arith}
+use Rattle.std.specs.Prelude.{nat_le}
 use Rattle.std.proofs.lemmas.Bool.Decides.{nat_tests}
 use Rattle.match_context.specs.declared.context.Context.{Context}
 use Rattle.match_context.specs.declared.frame.Frame.{Frame}
@@ -12,8 +12,8 @@ use Rattle.dfs_worker.specs.declared.guard.Guard.{Guard}
 use Rattle.dfs_worker.specs.declared.guard.Guard.TheVariants as guard
 use Rattle.dfs_worker.specs.declared.hand.Hand.{Hand}
 use Rattle.dfs_worker.specs.declared.hand.Hand.TheVariants.{Free, Charged, Posted, Popped, Emptied}
-use Rattle.dfs_worker.specs.Guards.{own_guard, must, has_top, top_over, waits, child_test, child_test_by, is_charged, is_posted, is_popped, is_emptied}
-use Rattle.dfs_worker.specs.Slots.{Slots, is_open, has_room, open_at}
+use Rattle.dfs_worker.specs.Guards.{own_guard, must, has_top, top_over, waits, child_test, is_charged, is_posted, is_popped, is_emptied}
+use Rattle.dfs_worker.specs.Slots.{is_open, open_at}
 use Rattle.dfs_worker.specs.State.{State, is_over, is_free, next_stage, waiting, waiting_by}
 
 pub must-none : (test : Bool) (g : Guard) (later : Option Guard) → must test g later ≡ None → (test ≡ true) × (later ≡ None)
@@ -114,13 +114,18 @@ advance-facts worker own =
     let b = must-none (has_top worker.stack) guard.Stack _ a.1 in
     let c = must-none (not (waits worker.stack)) guard.Child _ b.1 in
     let d = must-none (not (top_over worker.stack)) guard.Over _ c.1 in
-    let top = top-by worker.stack b.0 in
-    (top.0, (top.1.0, record {
-      hand = free-hand worker.hand a.0;
-      stack = top.1.1;
-      wait = no-child (top.0.stage + 1) top.0.wait (rw top.1.1 at c.0);
-      over = not-true (is_over top.0.rest) (rw top.1.1 at d.0);
-    }))
+    let top = top-by worker.stack b.0 in (
+      top.0,
+      (
+        top.1.0,
+        record {
+          hand = free-hand worker.hand a.0;
+          stack = top.1.1;
+          wait = no-child (top.0.stage + 1) top.0.wait (rw top.1.1 at c.0);
+          over = not-true (is_over top.0.rest) (rw top.1.1 at d.0);
+        },
+      ),
+    )
 
 -- descend, append and charge: a child waits, and their last test holds
 pub child-facts : (worker : State) (test : ℕ → ℕ → Bool) (g : Guard) →

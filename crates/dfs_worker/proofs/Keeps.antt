@@ -1,30 +1,28 @@
 -- What each event keeps of its worker.
-use Rattle.std.proofs.Common.{◌≡◌, ℕ, ◌+◌, ◌<◌, ◌≤◌, Bool, true, false, cond, List, [], ◌∷◌, length, get_or, Option, Some, None, refl, sym, ap, ◌∙◌, subst, arith}
+use Rattle.std.proofs.Common.{◌≡◌, ℕ, ◌+◌, ◌≤◌, Bool, true, false, cond, List, [], ◌∷◌, length, Option, Some, None, refl, sym, ap, ◌∙◌, subst, arith}
 use Rattle.std.specs.Prelude.{nat_lt, nat_eq}
-use Rattle.std.proofs.lemmas.Bool.Decides.{nat_tests}
 use Rattle.adfs_base.specs.Shape.{Extents}
+use Rattle.fabric.specs.Calls.{IsMessageOf}
 use Rattle.match_context.specs.Batch.{Batch}
 use Rattle.match_context.specs.declared.context.Context.{Context}
-use Rattle.match_context.specs.declared.expand.Next.{Next}
-use Rattle.match_context.specs.declared.expand.Next.TheVariants.{Child, Row, Skip, End}
 use Rattle.match_context.specs.declared.frame.Frame.{Frame}
 use Rattle.match_context.specs.declared.frame.Rest.{Rest}
 use Rattle.match_context.specs.declared.frame.Rest.TheVariants as rest
 use Rattle.match_context.specs.declared.message.Message.{Message}
-use Rattle.match_context.specs.Tree.{Tree, IsTree, Item, Below, Leaf, Pass, AreItems, answer, after}
-use Rattle.stage_termination.specs.Marks.{Marks, with_mark, moved_to, unmarked}
+use Rattle.match_context.specs.Tree.{Tree}
+use Rattle.stage_termination.specs.Marks.{Marks, unmarked}
 use Rattle.adfs_base.specs.declared.step_answers.Word.{Word}
 use Rattle.dfs_worker.specs.declared.event.Event.TheVariants as event
 use Rattle.dfs_worker.specs.declared.guard.Guard.TheVariants as guard
 use Rattle.dfs_worker.specs.declared.hand.Hand.{Hand}
 use Rattle.dfs_worker.specs.declared.hand.Hand.TheVariants.{Free, Charged, Posted, Popped, Emptied}
 use Rattle.dfs_worker.specs.Guards.{own_guard}
-use Rattle.dfs_worker.specs.Own.{root_frame, claimed, retired, ended, stepped, onto, answer_at, frames_after, advanced, child_frame, descended, descended_at, descended_by, appended, appended_at, appended_by, charged, charged_for, opened_with, fetched, fetched_by, fetched_at, fetched_for, posted, posted_by, freed, popped, message_frame, picked, picked_by, restored, restored_at, restored_by, marked, moved}
+use Rattle.dfs_worker.specs.Own.{root_frame, claimed, retired, child_frame, descended, descended_at, descended_by, appended, appended_at, appended_by, charged, charged_for, opened_with, fetched, fetched_by, fetched_at, fetched_for, posted, posted_by, freed, popped, message_frame, picked, picked_by, restored, restored_at, restored_by, marked, moved}
 use Rattle.dfs_worker.specs.Slots.{Slots, slot_of, open_at, is_open, has_room, room_in, with_slot, with_context, added, added_to}
-use Rattle.dfs_worker.specs.Sound.{IsPacket, IsMessage, IsWaiting, IsThrough, IsMessageFrame, StandsOn, IsFrame, IsStack, RestWithin, WithinRoots, IsOpenAt, AreSlots, IsHand, IsWorker}
-use Rattle.dfs_worker.specs.State.{State, is_over, next_stage, waiting}
-use Rattle.dfs_worker.proofs.Facts.{Waits, Works, Starts, Ends, Charges, start-facts, advance-facts, child-facts, charged-facts, charges-facts, post-facts, push-facts, pop-facts, pick-facts, discharge-facts, restore-facts, waiting-is}
-use Rattle.dfs_worker.proofs.Places.{AreSlots-set, IsOpenAt-added, OpenAt, open-facts}
+use Rattle.dfs_worker.specs.Sound.{IsPacket, IsThrough, StandsOn, IsStack, IsOpenAt, AreSlots, IsHand, IsWorker}
+use Rattle.dfs_worker.specs.State.{State, next_stage, waiting}
+use Rattle.dfs_worker.proofs.Facts.{Waits, Ends, Charges, start-facts, child-facts, charged-facts, charges-facts, post-facts, pop-facts, pick-facts, restore-facts, waiting-is}
+use Rattle.dfs_worker.proofs.Places.{AreSlots-set, IsOpenAt-added, open-facts}
 
 -- a worker that differs in its stack, hand and slots alone
 remade : (worker : State) (stack : List Frame) (hand : Hand) (slots : Slots) → IsWorker worker → IsStack worker.shape worker.enrolled worker.machine stack →
@@ -49,7 +47,10 @@ stands-without : (shape : Extents) (enrolled : Bool) (machine stage from : ℕ) 
 stands-without shape enrolled machine stage from frames wait rest.None h = h
 stands-without shape enrolled machine stage from frames wait (rest.Roots next end) h = h
 stands-without shape enrolled machine stage from frames wait (rest.Items message next over) h = record {
-  above = h.above; same_stage = h.same_stage; here = h.here; packet = h.packet;
+  above = h.above;
+  same_stage = h.same_stage;
+  here = h.here;
+  packet = h.packet;
   through = settled-none over next (length message.items.items) wait h.through;
 }
 
@@ -71,8 +72,13 @@ pub retired-keeps : (worker : State) → IsWorker worker → own_guard (event.Re
 retired-keeps worker h own =
     let at = start-facts worker own in
     record {
-      shape = h.shape; machine = h.machine; stack = rw at.stack tt; slots = h.slots; hand = rw at.hand tt;
-      mark_stages = h.mark_stages; mark_machines = h.mark_machines;
+      shape = h.shape;
+      machine = h.machine;
+      stack = rw at.stack tt;
+      slots = h.slots;
+      hand = rw at.hand tt;
+      mark_stages = h.mark_stages;
+      mark_machines = h.mark_machines;
     }
 
 -- ---- descend
@@ -107,7 +113,7 @@ AreSlots-added shape machine slots stage to context (Some message) e h room =
     let is = h.each_open (slot_of slots.machines stage to) message at.here in
     AreSlots-set shape machine slots stage to (Some (added context message)) h
     (λ m same. subst (IsOpenAt shape machine (slot_of slots.machines stage to)) (let e : added context message ≡ m = cc in e)
-      (IsOpenAt-added shape machine (slot_of slots.machines stage to) context message is room))
+    (IsOpenAt-added shape machine (slot_of slots.machines stage to) context message is room))
 
 appended-waits : (worker : State) (frame : Frame) (frames : List Frame) (child : Context × ℕ) → IsWorker worker → Waits worker frame frames child →
     has_room worker.slots (frame.stage + 1) child.1 ≡ true → IsWorker (appended_by worker frame frames (Some child))
@@ -137,7 +143,7 @@ charged-keeps worker h own =
     let waits = waiting-is worker at.0 at.1.0 at.1.1.0 at.1.1.1.0 in
     subst IsWorker (sym (charged-is worker (at.0.stage + 1, at.1.1.0.1) waits))
     (remade worker worker.stack (Charged (at.0.stage + 1) at.1.1.0.1) worker.slots h h.stack h.slots
-      (waits, none-open (open_at worker.slots (at.0.stage + 1) at.1.1.0.1) at.1.1.1.1))
+    (waits, none-open (open_at worker.slots (at.0.stage + 1) at.1.1.0.1) at.1.1.1.1))
 
 -- ---- fetch
 pub fetched-is : (worker : State) (batch : Batch) (stage to : ℕ) (frame : Frame) (frames : List Frame) (child : Context × ℕ) → Charges worker stage to frame frames child →
@@ -163,17 +169,21 @@ fetched-charges worker batch stage to frame frames child h at empty =
     let n = at.same_to in
     let low = wait.0 in
     let near = wait.1 in
-    let is : IsMessage worker.shape message = record {
-      packet = record {
-        from = h.machine; some_stage = omega arith; stage = omega arith; to = omega arith; home = empty.home; size = empty.size; within = omega arith;
-      };
+    let is : IsMessageOf worker.shape message = record {
+      from = h.machine;
+      some_stage = omega arith;
+      stage = omega arith;
+      to = omega arith;
+      home = empty.home;
+      size = empty.size;
       some = omega arith;
+      within = omega arith;
     } in
     remade worker (record frame { wait = None } ∷ frames) Free (with_slot worker.slots stage to (Some message)) h
     (childless worker.shape worker.enrolled worker.machine frame frames s)
     (AreSlots-set worker.shape worker.machine worker.slots stage to (Some message) h.slots
-      (λ m same. subst (IsOpenAt worker.shape worker.machine (slot_of worker.slots.machines stage to)) (let e : message ≡ m = cc in e)
-        (record { whole = is; own = refl; place = ap (λ q. slot_of q stage to) (sym h.slots.machines) })))
+    (λ m same. subst (IsOpenAt worker.shape worker.machine (slot_of worker.slots.machines stage to)) (let e : message ≡ m = cc in e)
+    (record { whole = is; own = refl; place = ap (λ q. slot_of q stage to) (sym h.slots.machines) })))
     tt
 
 pub fetched-keeps : (worker : State) (batch : Batch) → IsWorker worker → own_guard (event.Fetch 0) worker ≡ None → IsEmpty worker batch → IsWorker (fetched batch worker)
@@ -196,8 +206,8 @@ posted-keeps worker stage to h own =
     let is = h.slots.each_open (slot_of worker.slots.machines stage to) at.0 there.here in
     subst IsWorker (sym (posted-is worker stage to at.0 at.1.1))
     (remade worker worker.stack (Posted at.0) (with_slot worker.slots stage to None) h h.stack
-      (AreSlots-set worker.shape worker.machine worker.slots stage to None h.slots (λ m e. absurd (cc)))
-      (is.own, is.whole))
+    (AreSlots-set worker.shape worker.machine worker.slots stage to None h.slots (λ m e. absurd (cc)))
+    (is.own, is.whole))
 
 -- ---- push and discharge
 pub freed-keeps : (worker : State) → IsWorker worker → IsWorker (freed worker)
@@ -205,7 +215,7 @@ freed-keeps worker h = remade worker worker.stack Free worker.slots h h.stack h.
 
 -- ---- pop
 pub popped-keeps : (worker : State) (message : Message) → IsWorker worker → own_guard (event.Pop 0 message.stage) worker ≡ None →
-    message.to ≡ worker.machine → IsMessage worker.shape message → IsWorker (popped message worker)
+    message.to ≡ worker.machine → IsMessageOf worker.shape message → IsWorker (popped message worker)
 popped-keeps worker message h own here is =
     remade worker worker.stack (Popped message) worker.slots h h.stack h.slots (here, (pop-facts worker message.stage own).1, is)
 
@@ -213,20 +223,29 @@ popped-keeps worker message h own here is =
 pub picked-is : (worker : State) (message : Message) → worker.hand ≡ Popped message → picked worker ≡ picked_by worker (Popped message)
 picked-is worker message e = ap (picked_by worker) e
 
+packet-of : (shape : Extents) (message : Message) → IsMessageOf shape message → IsPacket shape message
+packet-of shape message is =
+    record { from = is.from; some_stage = is.some_stage; stage = is.stage; to = is.to; home = is.home; size = is.size; within = is.within }
+
 message-stack : (shape : Extents) (enrolled : Bool) (machine : ℕ) (message : Message) (contexts : List Context) (frames : List Frame) →
-    message.items.items ≡ contexts → IsStack shape enrolled machine frames → message.to ≡ machine → next_stage frames ≤ message.stage → IsMessage shape message →
+    message.items.items ≡ contexts → IsStack shape enrolled machine frames → message.to ≡ machine → next_stage frames ≤ message.stage → IsMessageOf shape message →
     IsStack shape enrolled machine (message_frame message contexts frames)
 message-stack shape enrolled machine message [] frames e h here above is = h
 message-stack shape enrolled machine message (context ∷ contexts) frames e h here above is =
-    let some = is.some in
-    (record {
-      stage = is.packet.stage;
-      wait = tt;
-      stands = record {
-        above = above; same_stage = refl; here = here; packet = is.packet;
-        through = record { ahead = λ _. omega arith; done = λ o. absurd (cc); settled = λ _. refl };
-      };
-    }, h)
+    let some = is.some in (
+      record {
+        stage = is.stage;
+        wait = tt;
+        stands = record {
+          above = above;
+          same_stage = refl;
+          here = here;
+          packet = packet-of shape message is;
+          through = record { ahead = λ _. omega arith; done = λ o. absurd (cc); settled = λ _. refl };
+        };
+      },
+      h,
+    )
 
 pub picked-keeps : (worker : State) → IsWorker worker → own_guard (event.Pick 0) worker ≡ None → IsWorker (picked worker)
 picked-keeps worker h own =
@@ -234,7 +253,7 @@ picked-keeps worker h own =
     let hand = rw at.1 at h.hand in
     subst IsWorker (sym (picked-is worker at.0 at.1))
     (remade worker (message_frame at.0 at.0.items.items worker.stack) Free worker.slots h
-      (message-stack worker.shape worker.enrolled worker.machine at.0 at.0.items.items worker.stack refl h.stack hand.0 hand.1 hand.2) h.slots tt)
+    (message-stack worker.shape worker.enrolled worker.machine at.0 at.0.items.items worker.stack refl h.stack hand.0 hand.1 hand.2) h.slots tt)
 
 -- ---- restore
 pub restored-is : (worker : State) (frame : Frame) (frames : List Frame) (message : Message) (next : ℕ) → Ends worker frame frames message next →
@@ -264,14 +283,24 @@ pub moved-keeps : (worker : State) (closed : ℕ) → IsWorker worker → IsWork
 moved-keeps worker closed h =
     let same = moved-by worker.marks closed (nat_eq worker.marks.stage closed) in
     record {
-      shape = h.shape; machine = h.machine; stack = h.stack; slots = h.slots; hand = h.hand;
-      mark_stages = same.0 ∙ h.mark_stages; mark_machines = same.1 ∙ h.mark_machines;
+      shape = h.shape;
+      machine = h.machine;
+      stack = h.stack;
+      slots = h.slots;
+      hand = h.hand;
+      mark_stages = same.0 ∙ h.mark_stages;
+      mark_machines = same.1 ∙ h.mark_machines;
     }
 
 pub marked-keeps : (worker : State) (closed : ℕ) (word : Word) → IsWorker worker → IsWorker (marked closed word worker)
 marked-keeps worker closed word h =
     let m = moved-keeps worker closed h in
     record {
-      shape = h.shape; machine = h.machine; stack = h.stack; slots = h.slots; hand = h.hand;
-      mark_stages = m.mark_stages; mark_machines = m.mark_machines;
+      shape = h.shape;
+      machine = h.machine;
+      stack = h.stack;
+      slots = h.slots;
+      hand = h.hand;
+      mark_stages = m.mark_stages;
+      mark_machines = m.mark_machines;
     }

@@ -5,3 +5,5 @@ pub mod Places
 pub mod Keeps
 pub mod Advances
 pub mod Roots
+pub mod Counts
+pub mod Weights

@@ -1,5 +1,5 @@
 -- One of a worker's slots changes.
-use Rattle.std.proofs.Common.{◌≡◌, ◌≢◌, ℕ, ◌+◌, ◌*◌, ◌<◌, ◌≤◌, Bool, true, false, cond, ◌&&◌, List, [], ◌∷◌, length, get_or, Option, Some, None, refl, sym, ap, ◌∙◌, subst, arith, zero, suc, ◌⊎◌, inl, inr}
+use Rattle.std.proofs.Common.{◌≡◌, ℕ, ◌+◌, ◌*◌, ◌<◌, ◌≤◌, Bool, true, false, cond, ◌&&◌, List, [], ◌∷◌, length, get_or, Option, Some, None, refl, sym, ap, ◌∙◌, subst, arith, zero, suc, ◌⊎◌, inl, inr}
 use Rattle.std.specs.Prelude.{slice_set, nat_lt}
 use Rattle.std.proofs.lemmas.Bool.Decides.{nat_tests}
 use Rattle.std.proofs.lemmas.List.{length_push}
@@ -8,8 +8,8 @@ use Rattle.adfs_base.specs.Shape.{Extents}
 use Rattle.match_context.specs.Bags.{total}
 use Rattle.match_context.specs.declared.context.Context.{Context}
 use Rattle.match_context.specs.declared.message.Message.{Message}
-use Rattle.dfs_worker.specs.Slots.{Slots, slot_of, open_at, has_room, room_in, with_slot, with_context, added, added_to}
-use Rattle.dfs_worker.specs.Sound.{IsOpenAt, IsMessage, IsPacket, AreSlots}
+use Rattle.dfs_worker.specs.Slots.{Slots, slot_of, open_at, room_in, with_slot, added}
+use Rattle.dfs_worker.specs.Sound.{IsOpenAt, AreSlots}
 
 -- ---- lists
 pub total-set_or : {A : Type 0} (f : A → ℕ) (xs : List A) (i : ℕ) (v d : A) → i < length xs → total f (slice_set xs i v) + f (get_or xs i d) ≡ total f xs + f v
@@ -82,15 +82,19 @@ pub IsOpenAt-added : (shape : Extents) (machine at : ℕ) (context : Context) (m
     room_in (Some message) ≡ true → IsOpenAt shape machine at (added context message)
 IsOpenAt-added shape machine at context message h room =
     let l = length_push message.items.items context in
-    let p = h.whole.packet in
+    let p = h.whole in
     let size = p.size in
     let lt : length message.items.items < message.items.size = grind (arith, nat_tests) in
     record {
       whole = record {
-        packet = record {
-          from = p.from; some_stage = p.some_stage; stage = p.stage; to = p.to; home = p.home; size = p.size; within = omega arith;
-        };
+        from = p.from;
+        some_stage = p.some_stage;
+        stage = p.stage;
+        to = p.to;
+        home = p.home;
+        size = p.size;
         some = omega arith;
+        within = omega arith;
       };
       own = h.own;
       place = h.place;
