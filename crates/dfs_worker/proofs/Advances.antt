@@ -13,7 +13,7 @@ use Rattle.match_context.specs.Tree.{Tree, IsTree, Item, Below, Leaf, Pass, AreI
 use Rattle.dfs_worker.specs.declared.event.Event.TheVariants as event
 use Rattle.dfs_worker.specs.Guards.{own_guard}
 use Rattle.dfs_worker.specs.Own.{ended, stepped, onto, answer_at, frames_after, advanced}
-use Rattle.dfs_worker.specs.Sound.{StandsOn, IsStack, IsWorker}
+use Rattle.dfs_worker.specs.Sound.{StandsOn, IsStack, IsWorker, TreeFits}
 use Rattle.dfs_worker.specs.State.{State, is_over, next_stage}
 use Rattle.dfs_worker.proofs.Facts.{advance-facts}
 
@@ -25,12 +25,6 @@ child-ahead tree stage (Below d m ∷ items) context machine h e =
     (h.0.0, rw same at h.0.1)
 child-ahead tree stage (Leaf d ∷ items) context machine h e = cc
 child-ahead tree stage (Pass ∷ items) context machine h e = cc
-
--- the tree has the worker's stages and machines
-pub record TreeFits (tree : Tree) (shape : Extents) : Type 0 where
-  pub law : IsTree tree
-  pub same_stages : tree.stages ≡ shape.stages
-  pub same_machines : tree.machines ≡ shape.machines
 
 -- the top as `next` left it, with another child, rest and place
 waiting-child : (shape : Extents) (enrolled : Bool) (machine stage from : ℕ) (frames : List Frame) (child : Context × ℕ) (r : Rest) → is_over r ≡ false →

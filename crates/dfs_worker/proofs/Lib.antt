@@ -7,3 +7,5 @@ pub mod Advances
 pub mod Roots
 pub mod Counts
 pub mod Weights
+pub mod Holdings
+pub mod Tries

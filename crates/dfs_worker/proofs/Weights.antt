@@ -24,10 +24,9 @@ use Rattle.dfs_worker.specs.declared.hand.Hand.TheVariants.{Free, Charged, Poste
 use Rattle.dfs_worker.specs.Guards.{own_guard}
 use Rattle.dfs_worker.specs.Own.{claimed, retired, ended, stepped, rows_with, onto, answer_at, advanced, descended, descended_by, appended, appended_by, charged, opened_with, fetched, fetched_for, posted, posted_by, freed, popped, message_frame, picked, picked_by, restored, restored_by}
 use Rattle.dfs_worker.specs.Slots.{Slots, slot_of, open_at, is_open, has_room, room_in, added, added_to}
-use Rattle.dfs_worker.specs.Sound.{StandsOn, IsWorker}
+use Rattle.dfs_worker.specs.Sound.{StandsOn, IsWorker, TreeFits}
 use Rattle.dfs_worker.specs.State.{State, is_over, next_stage, waiting}
 use Rattle.dfs_worker.specs.Weight.{weight_held, weight_roots, weight_message, weight_rest, weight_frame, weight_stack, weight_hand, weight_slot, weight_worker}
-use Rattle.dfs_worker.proofs.Advances.{TreeFits}
 use Rattle.dfs_worker.proofs.Counts.{child-exists}
 use Rattle.dfs_worker.proofs.Facts.{Waits, Works, Ends, Charges, start-facts, child-facts, charges-facts}
 use Rattle.dfs_worker.proofs.Keeps.{descended-is, appended-is, charged-is, fetched-is, posted-is, picked-is, restored-is}

@@ -2,6 +2,7 @@
 use Rattle.std.specs.Prelude.{◌^◌, ◌≡◌, ℕ, ◌+◌, ◌*◌, ◌<◌, ◌≤◌, Bool, true, false, List, [], ◌∷◌, length, slice_index_or, Option, Some, None}
 use Rattle.adfs_base.specs.Shape.{Extents, IsShape}
 use Rattle.fabric.specs.Calls.{IsMessageOf}
+use Rattle.match_context.specs.Tree.{Tree, IsTree}
 use Rattle.match_context.specs.declared.context.Context.{Context}
 use Rattle.match_context.specs.declared.frame.Frame.{Frame}
 use Rattle.match_context.specs.declared.frame.Rest.{Rest}
@@ -115,3 +116,9 @@ pub record IsWorker (worker : State) : Type 0 where
   -- its marks are of this shape's words
   pub mark_stages : worker.marks.stages ≡ worker.shape.stages
   pub mark_machines : worker.marks.machines ≡ worker.shape.machines
+
+-- the tree is one, and has the worker's stages and machines
+pub record TreeFits (tree : Tree) (shape : Extents) : Type 0 where
+  pub law : IsTree tree
+  pub same_stages : tree.stages ≡ shape.stages
+  pub same_machines : tree.machines ≡ shape.machines

@@ -8,9 +8,11 @@ mod guards;
 mod hand;
 mod outbox;
 mod stack;
+mod turn;
 mod worker;
 
 pub use event::Event;
 pub use guard::Guard;
 pub use hand::Hand;
+pub use turn::Turn;
 pub use worker::Worker;
