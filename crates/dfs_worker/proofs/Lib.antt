@@ -9,3 +9,4 @@ pub mod Counts
 pub mod Weights
 pub mod Holdings
 pub mod Tries
+pub mod Steps

@@ -60,6 +60,11 @@ pub guard-barred : (o : Option Guard) → is_some o ≡ true → o ≡ None → 
 guard-barred None e h = cc
 guard-barred (Some g) e h = cc
 
+-- a guard that no test failed
+pub guard-none : (o own : Option Guard) → o ≡ own → is_some o ≡ false → own ≡ None
+guard-none None own e h = sym e
+guard-none (Some g) own e h = cc
+
 -- ---- what the worker holds
 same-number : (n : ℕ) → nat_eq n n ≡ true
 same-number n = grind (arith, nat_tests)
@@ -182,7 +187,7 @@ self-same : (v : State) → SameSelf v v
 self-same v = record { number = refl; machine = refl; shape = refl }
 
 -- the events without a call leave the fabric as it is
-fits-alone : {F : Type 0} (agrees : F → ℕ → Holding → Type 0) (shape : F → Extents) (roots : F → ℕ → ℕ) (tree : Tree) (v v' : State) (f : F) →
+pub fits-alone : {F : Type 0} (agrees : F → ℕ → Holding → Type 0) (shape : F → Extents) (roots : F → ℕ → ℕ) (tree : Tree) (v v' : State) (f : F) →
     (h : Fits agrees shape roots tree v f) → IsWorker v' → SameSelf v v' → v'.enrolled ≡ v.enrolled → v'.marks ≡ v.marks → WithinRoots (tree.roots v.machine) v'.stack →
     ((census : Census) → count census v' ≡ count census v) → Fits agrees shape roots tree v' f
 fits-alone agrees shape roots tree v v' f h worker self enrolled marks within counts =
@@ -199,11 +204,3 @@ advance-tried agrees done excused shape roots tree v v' f w h own same is =
     (subst (λ u. Fits agrees shape roots tree u f) (sym is)
       (fits-alone agrees shape roots tree v (advanced tree v) f h (advanced-keeps tree v h.tree_fits h.worker own) (record { number = refl; machine = refl; shape = refl }) refl refl
         (advanced-roots (tree.roots v.machine) tree v.machine v.stack h.within) (λ census. advanced-count census tree v)))
-
--- what descend, append and charge leave as it is
-descended-self : (v : State) (frame : Frame) (frames : List Frame) (wait : Option (Context × ℕ)) →
-    SameSelf v (Rattle.dfs_worker.specs.Own.descended_by v frame frames wait)
-    × ((Rattle.dfs_worker.specs.Own.descended_by v frame frames wait).enrolled ≡ v.enrolled)
-    × ((Rattle.dfs_worker.specs.Own.descended_by v frame frames wait).marks ≡ v.marks)
-descended-self v frame frames None = (self-same v, refl, refl)
-descended-self v frame frames (Some child) = (record { number = refl; machine = refl; shape = refl }, refl, refl)

@@ -1,6 +1,7 @@
 //! One worker of one machine: what it holds, and what each event does to it.
 #![tactic(auto)]
 
+mod attempts;
 mod event;
 mod frames;
 mod guard;
