@@ -1,2 +1,12 @@
 pub mod Tops
 pub mod Stacks
+pub mod Facts
+pub mod Places
+pub mod Keeps
+pub mod Advances
+pub mod Roots
+pub mod Counts
+pub mod Weights
+pub mod Holdings
+pub mod Tries
+pub mod Steps

@@ -6,9 +6,8 @@ use Rattle.match_context.specs.declared.frame.Frame.{Frame}
 use Rattle.match_context.specs.declared.frame.Rest.{Rest}
 use Rattle.match_context.specs.declared.frame.Rest.TheVariants as rest
 use Rattle.match_context.specs.declared.message.Message.{Message}
-use Rattle.dfs_worker.specs.declared.hand.Hand.{Hand}
-use Rattle.dfs_worker.specs.declared.hand.Hand.TheVariants.{Free, Charged, Posted, Popped, Emptied}
-use Rattle.dfs_worker.specs.Sound.{StandsOn, IsStack, IsWaiting, IsHand, IsWorker}
+use Rattle.dfs_worker.specs.declared.hand.Hand.TheVariants.{Popped}
+use Rattle.dfs_worker.specs.Sound.{StandsOn, IsStack, IsWaiting, IsWorker}
 use Rattle.dfs_worker.specs.State.{State, next_stage, waiting, waiting_by}
 use Rattle.dfs_worker.specs.Tower.{Tower, with_frames, without_child}
 
@@ -53,7 +52,7 @@ popped-room worker message h e =
     let hand = rw e at h.hand in
     let fits = stack-fits worker.shape worker.enrolled worker.machine worker.stack h.stack in
     let above = hand.1 in
-    let low = hand.2.packet.stage in
+    let low = hand.2.stage in
     omega arith
 
 -- the same of a worker's own stack, whose child is taken, and for its hand

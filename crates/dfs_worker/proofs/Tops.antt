@@ -1,5 +1,5 @@
 -- The last of a list is the first of its reverse, and so for the frames of a stack.
-use Rattle.std.proofs.Common.{◌≡◌, ℕ, ◌+◌, ◌-◌, ◌<◌, ◌≤◌, List, [], ◌∷◌, ◌++◌, length, get_or, take, drop, reverse, Option, Some, None, refl, sym, ap, ◌∙◌, arith, suc, add-one}
+use Rattle.std.proofs.Common.{◌≡◌, ℕ, ◌+◌, List, [], ◌∷◌, ◌++◌, length, get_or, take, drop, reverse, Some, None, refl, sym, ap, ◌∙◌, arith, suc}
 use Rattle.std.specs.Prelude.{slice_set}
 use Rattle.std.proofs.lemmas.List.{take_more, reverse-append, set_split, drop_all}
 use Rattle.std.proofs.Math.Seq.{take-length}
@@ -29,7 +29,7 @@ pub taken-child : (room : ℕ) (xs : List Frame) (n : ℕ) (frame d : Frame) (no
     record { room = room; frames = reverse (slice_set xs n (record frame { wait = None })) } ≡ with_frames now (without_child now.frames)
 taken-child room xs n frame d now is last top =
     let same : record frame { wait = None } ∷ reverse (take n xs) ≡ without_child (reverse xs) =
-        rw (reverse-top xs n d last, ← top) refl in
+    rw (reverse-top xs n d last, ← top) refl in
     rw (reverse-set_top xs n (record frame { wait = None }) last, same) (ap (λ (t : Tower). with_frames t (without_child t.frames)) is)
 
 -- the frames when the top has given an answer and stays
@@ -39,5 +39,5 @@ pub advanced-kept : (room : ℕ) (xs : List Frame) (n : ℕ) (frame top d : Fram
     record { room = room; frames = reverse (slice_set xs n frame) } ≡ with_frames now (frames_after tree machine now.frames)
 advanced-kept room xs n frame top d now tree machine is last top_is step =
     let same : frame ∷ reverse (take n xs) ≡ frames_after tree machine (reverse xs) =
-        rw (reverse-top xs n d last, ← top_is, step) refl in
+    rw (reverse-top xs n d last, ← top_is, step) refl in
     rw (reverse-set_top xs n frame last, same) (ap (λ (t : Tower). with_frames t (frames_after tree machine t.frames)) is)

@@ -6,3 +6,4 @@ pub mod Sound
 pub mod Guards
 pub mod Census
 pub mod Weight
+pub mod Turn

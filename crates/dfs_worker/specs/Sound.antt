@@ -1,6 +1,8 @@
 -- What each worker keeps, whatever it does.
 use Rattle.std.specs.Prelude.{◌^◌, ◌≡◌, ℕ, ◌+◌, ◌*◌, ◌<◌, ◌≤◌, Bool, true, false, List, [], ◌∷◌, length, slice_index_or, Option, Some, None}
 use Rattle.adfs_base.specs.Shape.{Extents, IsShape}
+use Rattle.fabric.specs.Calls.{IsMessageOf}
+use Rattle.match_context.specs.Tree.{Tree, IsTree}
 use Rattle.match_context.specs.declared.context.Context.{Context}
 use Rattle.match_context.specs.declared.frame.Frame.{Frame}
 use Rattle.match_context.specs.declared.frame.Rest.{Rest}
@@ -12,7 +14,8 @@ use Rattle.dfs_worker.specs.Slots.{Slots, slot_of, open_at}
 use Rattle.dfs_worker.specs.State.{State, next_stage, waiting}
 
 -- ---- messages
--- It is of a later stage and of machines that exist; its buffer is the sender's, of the shape's size.
+-- A message that was sent, whatever is left in it: it is of a later stage and of machines that exist, and its buffer is
+-- the sender's, of the shape's size.
 pub record IsPacket (shape : Extents) (message : Message) : Type 0 where
   pub from : message.from < shape.machines
   pub some_stage : 0 < message.stage
@@ -21,11 +24,6 @@ pub record IsPacket (shape : Extents) (message : Message) : Type 0 where
   pub home : message.items.home ≡ message.from
   pub size : message.items.size ≡ shape.buffer
   pub within : length message.items.items ≤ shape.buffer
-
--- the same, with a context in it
-pub record IsMessage (shape : Extents) (message : Message) : Type 0 where
-  pub packet : IsPacket shape message
-  pub some : 0 < length message.items.items
 
 -- ---- the stack
 -- a child that waits is of a stage and a machine that exist
@@ -86,7 +84,7 @@ TopFits stages roots (frame ∷ frames) = (frame.stage < stages) × RestFits roo
 -- ---- open buffers
 -- what is open stands in the place of its stage and machine, and holds a context
 pub record IsOpenAt (shape : Extents) (machine at : ℕ) (message : Message) : Type 0 where
-  pub whole : IsMessage shape message
+  pub whole : IsMessageOf shape message
   pub own : message.from ≡ machine
   pub place : slot_of shape.machines message.stage message.to ≡ at
 
@@ -100,9 +98,9 @@ pub record AreSlots (shape : Extents) (machine : ℕ) (slots : Slots) : Type 0 w
 abbrev pub IsHand : State → Hand → Type 0
 IsHand worker Free = Unit {0}
 IsHand worker (Charged stage to) = (waiting worker.stack ≡ Some (stage, to)) × (open_at worker.slots stage to ≡ None)
-IsHand worker (Posted message) = (message.from ≡ worker.machine) × IsMessage worker.shape message
+IsHand worker (Posted message) = (message.from ≡ worker.machine) × IsMessageOf worker.shape message
 IsHand worker (Popped message) =
-    (message.to ≡ worker.machine) × (next_stage worker.stack ≤ message.stage) × IsMessage worker.shape message
+    (message.to ≡ worker.machine) × (next_stage worker.stack ≤ message.stage) × IsMessageOf worker.shape message
 IsHand worker (Emptied from stage) = (from < worker.shape.machines) × (0 < stage) × (stage < worker.shape.stages)
 
 -- ---- all of a worker
@@ -118,3 +116,9 @@ pub record IsWorker (worker : State) : Type 0 where
   -- its marks are of this shape's words
   pub mark_stages : worker.marks.stages ≡ worker.shape.stages
   pub mark_machines : worker.marks.machines ≡ worker.shape.machines
+
+-- the tree is one, and has the worker's stages and machines
+pub record TreeFits (tree : Tree) (shape : Extents) : Type 0 where
+  pub law : IsTree tree
+  pub same_stages : tree.stages ≡ shape.stages
+  pub same_machines : tree.machines ≡ shape.machines

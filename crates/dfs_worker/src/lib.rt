@@ -1,6 +1,7 @@
 //! One worker of one machine: what it holds, and what each event does to it.
 #![tactic(auto)]
 
+mod attempts;
 mod event;
 mod frames;
 mod guard;
@@ -8,9 +9,11 @@ mod guards;
 mod hand;
 mod outbox;
 mod stack;
+mod turn;
 mod worker;
 
 pub use event::Event;
 pub use guard::Guard;
 pub use hand::Hand;
+pub use turn::Turn;
 pub use worker::Worker;

@@ -4,8 +4,8 @@ ghost use Rattle.dfs_worker.specs.Own.{frames_after, rows_after, AddsRow};
 ghost use Rattle.dfs_worker.specs.Sound.{TopFits};
 ghost use Rattle.dfs_worker.specs.Tower.{with_frames, child_of, without_child, top_of};
 
-use adfs_base::NoMemory;
 use crate::frames;
+use adfs_base::NoMemory;
 use match_context::{Context, Expand, Frame};
 use std::alloc::Global;
 use std::marker::Model;

@@ -221,7 +221,7 @@ impl Worker {
     pub fn take_buffer(&mut self, stage: u32, to: u32) -> Option<Buffer>
         ensures { MatchOption result ((open_at self.old.slots stage to ≡ None) × (self.new ≡ self.old))
             (λ b. IfSome (open_at self.old.slots stage to) (λ m. m.items ≡ b)
-                × (self.new ≡ record self.old { slots = with_slot self.old.slots stage to None })) }
+            × (self.new ≡ record self.old { slots = with_slot self.old.slots stage to None })) }
     {
         let Message { items, .. } = self.outbox.take(stage, to)?;
         Some(items)

@@ -13,5 +13,7 @@
 mod inbox;
 mod plain;
 mod pool;
+mod shared;
 
 pub use plain::PlainFabric;
+pub use shared::Fabric;

@@ -1,4 +1,4 @@
-use Rattle.std.proofs.Common.{ap, sym}
+use Rattle.std.proofs.Common.{ap}
 use Rattle.dfs_worker.proofs.Stacks.{waiting-push}
 use Rattle.dfs_worker.specs.State.{State}
 use Rattle.dfs_worker.proofs.worker.Worker.descend.Goals as goal
