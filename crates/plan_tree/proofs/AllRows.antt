@@ -70,7 +70,7 @@ agrees-unbound g (m ∷ a) (x ∷ xs) below = agrees-unbound g a xs below.1
 agrees-unbound g [] (x ∷ xs) below = absurd below
 agrees-unbound g (m ∷ a) [] below = absurd below
 
-IsWithin-unbound : (g : PropertyGraph) (xs : List Variable) → IsWithin (replicate (length xs) false) (replicate (length xs) 0) (ranges_of g xs)
+pub IsWithin-unbound : (g : PropertyGraph) (xs : List Variable) → IsWithin (replicate (length xs) false) (replicate (length xs) 0) (ranges_of g xs)
 IsWithin-unbound g [] = tt
 IsWithin-unbound g (x ∷ xs) = (λ is. absurd (true≢false (sym is)), IsWithin-unbound g xs)
 

@@ -1,5 +1,5 @@
 -- What holds of the tree of each plan.
-use Rattle.std.specs.Prelude.{◌≡◌, ℕ, ◌<◌, ◌≤◌, Bool, List, count_by, length}
+use Rattle.std.specs.Prelude.{◌≡◌, ℕ, ◌<◌, ◌≤◌, ◌^◌, Bool, List, count_by, length}
 use Rattle.std.specs.List.{AllByRecursion}
 use Rattle.adfs_base.specs.declared.limits.TheConstants.{CONTEXT_WORDS}
 use Rattle.graph_tables.specs.Graph.{EndsIn, PropertyGraph}
@@ -38,7 +38,7 @@ over_parts texts graph query owner machines = record { texts = texts; query = qu
 abbrev pub LeavesAreAll : Type 0
 LeavesAreAll = (texts : List (List ℕ)) (graph : PropertyGraph) (query : Query) (owner : Owner) (machines : ℕ)
     → 0 < machines → IsOwner owner (length graph.vertices) machines
-    → AllByRecursion (EndsIn graph.vertices) graph.edges → HasShown texts graph
+    → AllByRecursion (EndsIn graph.vertices) graph.edges → length graph.vertices < 2 ^ 32 → length graph.edges < 2 ^ 32 → HasShown texts graph
     → IsWellFormed query → words_of query ≤ CONTEXT_WORDS → AreTold graph query
     → (matches : List (List ℕ))
       × StandForEach graph query (tree_leaves (tree_of (over_parts texts graph query owner machines))) matches
