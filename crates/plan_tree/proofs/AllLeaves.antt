@@ -1,5 +1,6 @@
 -- The leaves of a plan's tree over the parts of a graph stand for all matches.
-use Rattle.std.proofs.Common.{◌≡◌, ℕ, zero, suc, ◌+◌, ◌-◌, ◌*◌, ◌/◌, ◌%◌, ◌<◌, ◌≤◌, ◌^◌, ◌⊎◌, max, Bool, true, false, cond, ◌&&◌, ◌==◌, eqb, ltb, List, [], ◌∷◌, ◌++◌, length, map, get_or, set, replicate, Option, Some, None}
+use Rattle.std.proofs.Common.{◌≡◌, ℕ, zero, suc, ◌+◌, ◌-◌, ◌*◌, ◌/◌, ◌%◌, ◌<◌, ◌≤◌, ◌^◌, ◌⊎◌, max, Bool, true, false, cond, ◌&&◌, ◌==◌, eqb, ltb, List, [], ◌∷◌, ◌++◌, length, map, get_or}
+use Rattle.std.proofs.Common.{set, replicate, Option, Some, None}
 use Rattle.std.proofs.Common.{count_by, sum_by, filter, flat_map, refl, sym, ap, ap₂, ◌∙◌, subst, arith, true≢false, inl, inr, append-nil, length-set, get_or-set_same, get_or-set_other}
 use Rattle.std.specs.Prelude.{slice_get, slice_index}
 use Rattle.std.specs.List.{AllByRecursion, range_with_len}
@@ -64,6 +65,11 @@ owner-below owner.Modulo vertices machines v some is below = mod_below v machine
 owner-below owner.Block vertices machines v some is below =
     block-below vertices machines v (div_ceil vertices machines) below (div_ceil_times vertices machines some).0
 owner-below (owner.Listed list) vertices machines v some is below = all-at (λ m. m < machines) list v is.1 (subst (λ n. v < n) (sym is.0) below)
+
+pub owned-in : (o : Owner) (vertices machines n : ℕ) → 0 < machines → IsOwner o vertices machines → n < vertices → slice_index (owners_in o vertices machines) n < machines
+owned-in o vertices machines n some is below =
+    subst (λ m. m < machines) (sym (get_or-map-range_with_len (λ v. machine_of o vertices machines v) 0 vertices n n 0 below (omega arith)))
+    (owner-below o vertices machines n some is below)
 
 length-same : {X : Type 0} (n : ℕ) (x : X) → length (replicate n x) ≡ n
 length-same zero x = refl
@@ -184,7 +190,7 @@ All-map : (P R : ℕ → Type 0) (xs : List ℕ) → ((x : ℕ) → P x → R x)
 All-map P R [] each all = tt
 All-map P R (x ∷ xs) each all = (each x all.0, All-map P R xs each all.1)
 
-get-range : {X : Type 0} (f : ℕ → X) (k n j : ℕ) → j < n → slice_get (map f (range_with_len k n)) j ≡ Some (f (k + j))
+pub get-range : {X : Type 0} (f : ℕ → X) (k n j : ℕ) → j < n → slice_get (map f (range_with_len k n)) j ≡ Some (f (k + j))
 get-range f k zero j below = absurd (omega arith)
 get-range f k (suc n) zero below = ap (λ i. Some (f i)) (let e : k ≡ k + 0 = omega arith in e)
 get-range f k (suc n) (suc j) below = get-range f (k + 1) n j (omega arith) ∙ ap (λ i. Some (f i)) (let e : k + 1 + j ≡ k + suc j = omega arith in e)
@@ -193,7 +199,7 @@ leaves-from : (tree : Tree) (n m : ℕ) (c : Context) → tree.stages ≡ n → 
 unfolding leaves
 leaves-from tree n m c is = ap (λ k. leaves_within tree k 0 m c) (let e : tree.stages - 0 ≡ n = omega arith in e)
 
-length-stages : (q : Query) (w : Walk) (hops : List Hop) → length (stages_from q w hops) ≡ length hops
+pub length-stages : (q : Query) (w : Walk) (hops : List Hop) → length (stages_from q w hops) ≡ length hops
 length-stages q w [] = refl
 length-stages q w (h ∷ hops) = ap suc (length-stages q (walk_after q w h) hops)
 
@@ -210,9 +216,7 @@ leaves_are_all texts g q o machines some is_owner ends few_vertices few_edges sh
     let own : ℕ → List ℕ = λ m. filter (λ i. slice_index owners i == m) (range_with_len 0 vertices) in
     let room : HasRoom q = narrow in
     let all : length owners ≡ vertices = length-map-range_with_len (λ v. machine_of o vertices machines v) 0 vertices in
-    let owner_is : (n : ℕ) → n < vertices → slice_index owners n < machines = λ n below.
-    subst (λ m. m < machines) (sym (get_or-map-range_with_len (λ v. machine_of o vertices machines v) 0 vertices n n 0 below (omega arith)))
-    (owner-below o vertices machines n some is_owner below) in
+    let owner_is : (n : ℕ) → n < vertices → slice_index owners n < machines = λ n below. owned-in o vertices machines n some is_owner below in
     let parts_are : (m : ℕ) → m < machines → slice_get over.parts m ≡ Some (part_with owners machines g m) = λ m below.
     get-range (λ m. part_of g o machines m) 0 machines m below ∙ ap (λ k. Some (part_of g o machines k)) (let e : 0 + m ≡ m = omega arith in e) in
     let named : (p : ℕ) (x : Capture) → slice_get q.captures p ≡ Some x → x.variable < length q.variables = λ p x found.

@@ -58,7 +58,7 @@ get-at [] v below = absurd (omega arith)
 get-at (x ∷ xs) zero below = refl
 get-at (x ∷ xs) (suc v) below = get-at xs v (omega arith)
 
-get-low : {X : Type 0} (xs : List X) (i : ℕ) (x : X) → slice_get xs i ≡ Some x → i < length xs
+pub get-low : {X : Type 0} (xs : List X) (i : ℕ) (x : X) → slice_get xs i ≡ Some x → i < length xs
 get-low [] i x found = cc
 get-low (y ∷ ys) zero x found = omega arith
 get-low (y ∷ ys) (suc i) x found = let later = get-low ys i x found in omega arith

@@ -1,5 +1,6 @@
 -- What is written into the words of a context, and what they say.
-use Rattle.std.specs.Prelude.{◌≡◌, ℕ, ◌+◌, ◌-◌, ◌^◌, ◌==◌, ◌&&◌, not, Bool, true, false, ℤ, pos, neg_ℤ, int_lt, List, [], ◌∷◌, length, nat_lt, bit_and, bit_or, slice_get, slice_index, slice_set, Option, Some, None, if◌then◌else◌}
+use Rattle.std.specs.Prelude.{◌≡◌, ℕ, ◌+◌, ◌-◌, ◌^◌, ◌==◌, ◌&&◌, not, Bool, true, false, ℤ, pos, neg_ℤ, int_lt, List, [], ◌∷◌, length, nat_lt, bit_and, bit_or, slice_get, slice_index}
+use Rattle.std.specs.Prelude.{slice_set, Option, Some, None, if◌then◌else◌}
 use Rattle.std.specs.Int.{cast_unsigned, w32, w64}
 use Rattle.std.specs.List.{AllByRecursion, list_all}
 use Rattle.std.specs.Option.{option_and_then, option_map_or}
