@@ -5,8 +5,9 @@ use Rattle.std.specs.List.{list_all, range_with_len}
 use Rattle.typed_expr.specs.declared.query.Capture.{Capture}
 use Rattle.adfs_base.specs.declared.value.Value.TheVariants as value
 use Rattle.typed_expr.specs.declared.query.Query.{Query}
+use Rattle.typed_expr.specs.Parts.{captures}
 use Rattle.typed_expr.proofs.Parts.{captures-Constant}
-use Rattle.stage_plan.specs.Walk.{is_known, is_ready, is_whole, no_conjunct}
+use Rattle.stage_plan.specs.Walk.{conjunct_at, is_known, is_ready, is_whole, no_conjunct}
 use Rattle.stage_plan.proofs.Sums.{and_true}
 
 abbrev pub all_known : List Capture → List Bool → List ℕ → Bool
@@ -40,3 +41,7 @@ pub range-push : (a n m : ℕ) → a + n ≡ m → range_with_len a (n + 1) ≡ 
 range-push a zero m is = ap (λ k. k ∷ []) (let e : a ≡ m = omega arith in e)
 range-push a (suc n) m is =
     ap (range_with_len a) (let e : suc n + 1 ≡ suc (n + 1) = omega arith in e) ∙ ap (λ xs. a ∷ xs) (range-push (a + 1) n m (omega arith))
+
+-- and uses nothing
+pub uses-past : (query : Query) (number : ℕ) → length query.conjuncts ≤ number → captures (conjunct_at query number) ≡ []
+uses-past query number past = ap captures (past_end query.conjuncts number no_conjunct past) ∙ captures-Constant no_conjunct value.Null refl

@@ -7,13 +7,13 @@ use Rattle.typed_expr.specs.declared.query.EdgeJoin.{EdgeJoin}
 use Rattle.typed_expr.specs.declared.query.Query.{Query}
 use Rattle.stage_plan.specs.Front.{Front, closes, has_end, is_bound, other_end, pick, reaches, touches}
 use Rattle.stage_plan.specs.Hops.{close, reach, turn}
-use Rattle.stage_plan.specs.Laws.{IsThere}
+use Rattle.stage_plan.specs.Laws.{IsThere, IsVertexOf}
 use Rattle.stage_plan.specs.Moves.{is_edge}
 use Rattle.stage_plan.specs.Walk.{Walk, learned, walk_after}
 use Rattle.stage_plan.proofs.Owed.{IsArrival}
 use Rattle.stage_plan.proofs.Picks.{All-picked, AreDistinct, picked, unsplit}
 use Rattle.stage_plan.proofs.Sums.{All-both}
-use Rattle.stage_plan.proofs.Wellness.{IsEdgeOf, IsNamed, IsVertexOf, SameEnds}
+use Rattle.stage_plan.proofs.Wellness.{IsEdgeOf, IsNamed, SameEnds}
 
 -- an edge that is left isn't bound
 abbrev pub IsLeft : Query → List Bool → EdgeJoin → Type 0

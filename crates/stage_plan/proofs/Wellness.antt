@@ -10,14 +10,12 @@ use Rattle.typed_expr.specs.declared.query.Capture.{Capture}
 use Rattle.typed_expr.specs.declared.query.EdgeJoin.{EdgeJoin}
 use Rattle.typed_expr.specs.declared.query.Query.{Query}
 use Rattle.stage_plan.specs.Front.{AreThere}
+use Rattle.stage_plan.specs.Laws.{IsVertexOf}
 use Rattle.stage_plan.specs.Moves.{is_edge}
 use Rattle.stage_plan.proofs.Picks.{AreDistinct}
 use Rattle.stage_plan.proofs.Sums.{All-both, All-map, by_recursion}
 
--- there is such a variable, and it is a vertex, or an edge
-abbrev pub IsVertexOf : Query → ℕ → Type 0
-IsVertexOf q v = (v < length q.variables) × (is_edge q v ≡ false)
-
+-- there is such a variable, and it is an edge
 abbrev pub IsEdgeOf : Query → ℕ → Type 0
 IsEdgeOf q v = (v < length q.variables) × (is_edge q v ≡ true)
 

@@ -15,7 +15,7 @@ use Rattle.stage_plan.specs.declared.hop.Hop.{Hop}
 use Rattle.stage_plan.specs.declared.hop.Hop.TheVariants as hop
 use Rattle.stage_plan.specs.Front.{Front, bound_end, closes, goes_out, has_end, is_bound, other_end, pick, reaches, touches}
 use Rattle.stage_plan.specs.Hops.{and_on, close, first_front, hops_from, most_hops, reach, turn}
-use Rattle.stage_plan.specs.Laws.{AreNamed, EndsWithOutput, PlansAreWhole}
+use Rattle.stage_plan.specs.Laws.{AreNamed, EndsWithOutput, IsVertexOf, IsWhole, PlansAreWhole}
 use Rattle.stage_plan.specs.Moves.{Close, Go, IsOrdered, ask_about, asked_by, edge_along, is_edge, moves_from}
 use Rattle.stage_plan.specs.Walk.{Walk, arrived, learned, no_conjunct, rooted, walk_after, with_gains}
 use Rattle.stage_plan.proofs.Owed.{IsArrival, about-ordered, all_free, asked-about, conjuncts_owed, edge_along-end, label_owed, labels-all, labels_owed, labels_owed-edge}
@@ -23,7 +23,7 @@ use Rattle.stage_plan.proofs.Owed.{labels_owed-none, labels_owed-vertex, waiting
 use Rattle.stage_plan.proofs.Picks.{All-picked, none_picked, picked}
 use Rattle.stage_plan.proofs.Sums.{All-map, total-append, total-both, total-map}
 use Rattle.stage_plan.proofs.Walks.{IsLeft, StandTogether, arrival_there, close_end, in_range, kinds_differ, other_free, other_vertex, set_more, together-close, together-reach, together-turn}
-use Rattle.stage_plan.proofs.Wellness.{IsEdgeOf, IsNamed, IsVertexOf, SameEnds, Wellness, wellness}
+use Rattle.stage_plan.proofs.Wellness.{IsEdgeOf, IsNamed, SameEnds, Wellness, wellness}
 
 abbrev edges_owed : (Test → ℕ) → List EdgeJoin → ℕ
 edges_owed f left = total (λ (j : EdgeJoin). f (Joined j) + f (Labels j.edge)) left
@@ -112,7 +112,7 @@ goes-close q w front j rest hops together is later =
       names = (
         (
           arrival_there q front.bound w.arriving together.sizes together.arriving_bound,
-          (subst (λ v. v < length q.variables) (sym together.at_current) together.current_vertex.0, (split.0.0.edge.0, subst (λ n. y < n) together.sizes (in_range front.bound y y_bound))),
+          (subst (λ v. v < length q.variables) (sym together.at_current) together.current_vertex.0, (split.0.0.edge.0, other_vertex q j front.current split.0.0)),
         ),
         later.names,
       );
@@ -167,7 +167,7 @@ goes-reach q w front j rest hops together is free_here later =
       names = (
         (
           arrival_there q front.bound w.arriving together.sizes together.arriving_bound,
-          (subst (λ v. v < length q.variables) (sym together.at_current) together.current_vertex.0, (split.0.0.edge.0, vertex.0)),
+          (subst (λ v. v < length q.variables) (sym together.at_current) together.current_vertex.0, (split.0.0.edge.0, vertex)),
         ),
         later.names,
       );
@@ -195,16 +195,19 @@ goes-reach q w front j rest hops together is free_here later =
     }
 
 goes-turn : (q : Query) (w : Walk) (front : Front) (j : EdgeJoin) (rest : List EdgeJoin) (hops : List Hop) → StandTogether q w front
-    → bound_end front j < length q.variables
+    → IsVertexOf q (bound_end front j) → get_or front.bound (bound_end front j) false ≡ true
     → Goes q (walk_after q w (turn front (j, rest)).0) (turn front (j, rest)).1 hops → Goes q w front ((turn front (j, rest)).0 ∷ hops)
-goes-turn q w front j rest hops together there later =
+goes-turn q w front j rest hops together there is_bound later =
     let moves = moves_from q (walk_after q w (turn front (j, rest)).0) hops in
     record {
       ends = later.ends;
       names = (
         (
           arrival_there q front.bound w.arriving together.sizes together.arriving_bound,
-          (subst (λ v. v < length q.variables) (sym together.at_current) together.current_vertex.0, there),
+          (
+            subst (λ v. v < length q.variables) (sym together.at_current) together.current_vertex.0,
+            (there, ap (λ m. get_or m (bound_end front j) false) together.mask ∙ is_bound),
+          ),
         ),
         later.names,
       );
@@ -275,7 +278,7 @@ goes q well (suc n) w front together le =
         goes-reach q w front x.0 x.1 (hops_from n (reach front x).1) together is_r free
         (later (walk_after q w (reach front x).0) (reach front x).1 (together-reach q w front x.0 x.1 together is_r) (still-one_less front (reach front x).1 n it.shorter le))
     at_pick later None is_c None is_r (Some x) is_t =
-        goes-turn q w front x.0 x.1 (hops_from n (turn front x).1) together (together-turn q w front x.0 x.1 together is_t).current_vertex.0
+        goes-turn q w front x.0 x.1 (hops_from n (turn front x).1) together (together-turn q w front x.0 x.1 together is_t).current_vertex (together-turn q w front x.0 x.1 together is_t).current_bound
         (later (walk_after q w (turn front x).0) (turn front x).1 (together-turn q w front x.0 x.1 together is_t) (still-turned front x.0 x.1 n is_r is_t le))
     at_pick later None is_c None is_r None is_t = at_end q w front well together is_t
 

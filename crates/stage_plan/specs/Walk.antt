@@ -1,6 +1,6 @@
 -- What is known on the way through a pattern: the captures that are written, and the parts of the condition that can be
 -- tested.
-use Rattle.std.specs.Prelude.{ℕ, ◌+◌, ◌==◌, not, Bool, true, false, List, [], ◌∷◌, length, filter, replicate, slice_get, slice_index_or, slice_set, Option, Some, None, if◌then◌else◌}
+use Rattle.std.specs.Prelude.{ℕ, ◌+◌, ◌==◌, not, Bool, true, false, List, [], ◌∷◌, length, filter, flat_map, replicate, slice_get, slice_index_or, slice_set, Option, Some, None, if◌then◌else◌}
 use Rattle.std.specs.List.{list_all, range_with_len}
 use Rattle.adfs_base.specs.declared.value.Value.TheVariants as value
 use Rattle.typed_expr.specs.Parts.{captures}
@@ -47,6 +47,10 @@ whole query known waiting = filter (is_whole query known) waiting
 abbrev pub still_waiting : Query → List Bool → List ℕ → List ℕ
 still_waiting query known waiting = filter (λ number. not (is_whole query known number)) waiting
 
+-- the places of the captures that conjuncts use
+abbrev pub uses : Query → List ℕ → List ℕ
+uses query numbers = flat_map (λ number. captures (conjunct_at query number)) numbers
+
 -- the places of a variable's captures among these, which are counted from n
 abbrev pub places_from : ℕ → ℕ → List Capture → List ℕ
 places_from n variable [] = []
@@ -64,12 +68,12 @@ abbrev pub captures_of_any : Query → Option ℕ → List ℕ
 captures_of_any query None = []
 captures_of_any query (Some variable) = captures_of query variable
 
+abbrev pub gains_of : Query → List ℕ → List ℕ → Gains
+gains_of query captured conjuncts = record { captures = captured; conjuncts = conjuncts; reads = uses query conjuncts }
+
 -- what is gained where the captures of a variable, if there is one, become known
 abbrev pub gains : Query → Walk → Option ℕ → Gains
-gains query walk variable = record {
-  captures = captures_of_any query variable;
-  conjuncts = whole query (learned variable walk.known) walk.waiting;
-}
+gains query walk variable = gains_of query (captures_of_any query variable) (whole query (learned variable walk.known) walk.waiting)
 
 -- the walk after that
 abbrev pub with_gains : Query → Walk → Option ℕ → Walk
@@ -105,7 +109,7 @@ led_by hop.Output walk = stands walk walk.current None
 
 -- what is gained along a hop
 abbrev pub passage : Query → Walk → Option ℕ → Gains
-passage query walk None = record { captures = []; conjuncts = [] }
+passage query walk None = gains_of query [] []
 passage query walk (Some edge) = gains query walk (Some edge)
 
 abbrev pub passed : Query → Walk → Option ℕ → Walk

@@ -1,12 +1,15 @@
 use crate::hop::Hop;
 use crate::numbers::Numbers;
 
-/// What becomes known at a moment: the captures of a variable, which are then written, and the conjuncts that can
-/// then be tested, each by its place in the query.
+/// What becomes known at a moment. All numbers are places in the query.
 #[derive(Drop)]
 pub struct Gains {
+    /// The captures of a variable, which are then written.
     pub captures: Numbers,
+    /// The conjuncts that can then be tested.
     pub conjuncts: Numbers,
+    /// The captures that these conjuncts use.
+    pub reads: Numbers,
 }
 
 /// A stage of a plan.

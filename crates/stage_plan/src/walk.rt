@@ -1,6 +1,7 @@
 //! What is known on the way through a pattern.
-ghost use Rattle.std.specs.Prelude.{◌≡◌, ◌<◌, ◌^◌, IfOk, OnOk, length, slice_get};
+ghost use Rattle.std.specs.Prelude.{◌≡◌, ◌<◌, ◌^◌, ◌++◌, IfOk, OnOk, length, slice_get};
 ghost use Rattle.std.specs.List.{range_with_len};
+ghost use Rattle.typed_expr.specs.Parts.{captures};
 ghost use Rattle.stage_plan.specs.Walk as spec;
 
 use crate::hop::Hop;
@@ -83,6 +84,63 @@ fn still_waiting(
         rest = others;
     }
     Ok(found)
+}
+
+// Adds the places of the captures that an expression uses.
+fn add_uses(expr: &Expr, found: &mut Numbers) -> Result<(), NoMemory>
+    ensures { OnOk result (found.new ≡ found.old ++ captures expr.now) }
+{
+    match expr {
+        Expr::Constant(_) => Ok(()),
+        Expr::Captured(place) => found.push(*place),
+        Expr::Not(inside) => add_uses(inside.get(), found),
+        Expr::Neg(inside) => add_uses(inside.get(), found),
+        Expr::IsNull(inside, _) => add_uses(inside.get(), found),
+        Expr::Binary(_, left, right) => {
+            add_uses(left.get(), found)?;
+            add_uses(right.get(), found)
+        }
+    }
+}
+
+// Adds those of the conjunct of this number.
+fn add_uses_at(query: &Query, number: u32, found: &mut Numbers) -> Result<(), NoMemory>
+    ensures { OnOk result (found.new ≡ found.old ++ captures (spec.conjunct_at query.now number)) }
+{
+    match query.conjuncts.as_slice().get(number as usize) {
+        Some(conjunct) => add_uses(conjunct, found),
+        None => Ok(()),
+    }
+}
+
+// The places of the captures that conjuncts use.
+fn uses(alloc: Global, query: &Query, numbers: &[u32]) -> Result<Numbers, NoMemory>
+    ensures { IfOk result (λ found. found ≡ spec.uses query.now numbers.now) }
+{
+    let mut found = Numbers::new(alloc);
+    let mut rest = numbers;
+    while let Some((number, others)) = rest.split_first() {
+        add_uses_at(query, *number, &mut found)?;
+        rest = others;
+    }
+    Ok(found)
+}
+
+// What is gained by captures and conjuncts.
+fn gained(
+    alloc: Global,
+    query: &Query,
+    captured: Numbers,
+    conjuncts: Numbers,
+) -> Result<Gains, NoMemory>
+    ensures { IfOk result (λ gained. gained ≡ spec.gains_of query.now captured conjuncts) }
+{
+    let reads = uses(alloc, query, conjuncts.as_slice())?;
+    Ok(Gains {
+        captures: captured,
+        conjuncts,
+        reads,
+    })
 }
 
 // The places of a variable's captures.
@@ -180,12 +238,9 @@ impl Walk {
         self.learn(variable);
         let waiting = still_waiting(alloc, query, &self.known, &self.waiting)?;
         let conjuncts = whole(alloc, query, &self.known, &self.waiting)?;
-        let captures = captures_of_any(alloc, query, variable)?;
         self.waiting = waiting;
-        Ok(Gains {
-            captures,
-            conjuncts,
-        })
+        let captured = captures_of_any(alloc, query, variable)?;
+        gained(alloc, query, captured, conjuncts)
     }
 
     // What is gained along a hop that binds an edge, if it does.
@@ -196,10 +251,7 @@ impl Walk {
     {
         match edge {
             Some(edge) => self.gain(alloc, query, Some(edge)),
-            None => Ok(Gains {
-                captures: Numbers::new(alloc),
-                conjuncts: Numbers::new(alloc),
-            }),
+            None => gained(alloc, query, Numbers::new(alloc), Numbers::new(alloc)),
         }
     }
 

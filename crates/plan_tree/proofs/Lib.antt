@@ -1,0 +1,16 @@
+pub mod Agree
+pub mod AllLeaves
+pub mod AllRows
+pub mod Arrive
+pub mod Bags
+pub mod Days
+pub mod Edges
+pub mod Lead
+pub mod Leaves
+pub mod PartLaws
+pub mod Ranges
+pub mod RowsOf
+pub mod Tells
+pub mod Trees
+pub mod Values
+pub mod Words

@@ -1,0 +1,6 @@
+pub mod Agreeing
+pub mod Answers
+pub mod Laws
+pub mod PlanTree
+pub mod Rows
+pub mod Told

@@ -1,0 +1,18 @@
+//! What holds of the tree of each plan.
+ghost use Rattle.plan_tree.specs.Laws.{LeavesAreAll, MovesLeadToAll, PlansMakeTrees};
+
+/// Moves that bind each variable and ask each test of a query lead to each match once, and to nothing else.
+pub fn moves_lead_to_all()
+    ensures { MovesLeadToAll }
+{}
+
+/// Over the parts of a graph, the leaves of a plan's tree stand for the matches of its query, each for one, whoever owns
+/// the vertices and however many machines there are.
+pub fn leaves_are_all()
+    ensures { LeavesAreAll }
+{}
+
+/// Over the parts of a graph, a plan's tree is a staged tree.
+pub fn plans_make_trees()
+    ensures { PlansMakeTrees }
+{}
