@@ -201,7 +201,7 @@ fn is_binary(x: &AstExpr, op: Op, left: &AstExpr, right: &AstExpr) -> bool
 
 /// Whether the two are equal apart from places.
 #[cycle(same_expr)]
-fn same_expr(a: &AstExpr, b: &AstExpr) -> bool
+pub fn same_expr(a: &AstExpr, b: &AstExpr) -> bool
     ensures { IsTrue result ↔ (spec.bare a.now ≡ spec.bare b.now) }
 {
     match b {

@@ -2,10 +2,10 @@
 use Rattle.std.proofs.Common.{◌≡◌, ◌∙◌, sym, ap, ℕ, Bool, true, false, if◌then◌else◌, List, [], ◌∷◌, ◌++◌}
 use Rattle.adfs_base.specs.declared.value.Value.{Value}
 use Rattle.pgql_tree.specs.declared.ast.Op.{Op}
-use Rattle.typed_expr.specs.declared.expr.Expr.{Expr, para-roll-Expr}
-use Rattle.typed_expr.specs.declared.expr.Expr.TheVariants as expr
-use Rattle.typed_expr.specs.declared.expr.Expr.TheOpen.{Expr-F}
-use Rattle.typed_expr.specs.declared.expr.Expr.TheFolds.{para-Expr}
+use Rattle.typed_query.specs.declared.expr.Expr.{Expr, para-roll-Expr}
+use Rattle.typed_query.specs.declared.expr.Expr.TheVariants as expr
+use Rattle.typed_query.specs.declared.expr.Expr.TheOpen.{Expr-F}
+use Rattle.typed_query.specs.declared.expr.Expr.TheFolds.{para-Expr}
 use Rattle.typed_expr.specs.Meaning.{conjuncts, conjuncts_of, is_and}
 
 pub conjuncts-Constant : (whole : Expr) (a : Value) → whole ≡ expr.Constant a → conjuncts whole ≡ expr.Constant a ∷ []

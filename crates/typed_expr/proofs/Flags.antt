@@ -1,7 +1,7 @@
 -- The numbers of vertices and edges, as variables are added at the end.
 use Rattle.std.proofs.Common.{◌≡◌, ◌∙◌, ℕ, zero, suc, ◌+◌, Bool, true, false, List, [], ◌∷◌, ◌++◌, length, Some, refl, ap, subst, arith}
 use Rattle.std.specs.List.{AllByRecursion, slice_get}
-use Rattle.typed_expr.specs.WellFormed.{edges_from, vertices_from}
+use Rattle.typed_query.specs.WellFormed.{edges_from, vertices_from}
 
 further : (n k : ℕ) → n + 1 + k ≡ n + suc k
 further n k = omega arith

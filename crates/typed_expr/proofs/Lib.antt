@@ -4,18 +4,16 @@ mod AstFolds
 mod Cases
 mod Conjuncts
 mod Days
-mod ExprByParts
 mod Flags
-pub mod Folds
 mod Groups
 mod Lists
 mod Meanings
+mod Named
 mod Outcomes
-pub mod Parts
 mod Queries
 mod SameLaw
 mod Sames
 mod Scopes
 mod Trees
-pub mod Validity
+pub use Rattle.typed_query.proofs.Validity
 mod Wholes

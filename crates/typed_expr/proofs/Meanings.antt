@@ -17,22 +17,22 @@ use Rattle.pgql_tree.proofs.Bare as bare
 use Rattle.value_text.specs.Dates.{IsDay, date_cell}
 use Rattle.value_text.specs.Texts.{number_of}
 use Rattle.value_text.specs.Valid.{IsValid}
-use Rattle.typed_expr.specs.declared.expr.Expr.{Expr}
-use Rattle.typed_expr.specs.declared.expr.Expr.TheVariants as expr
-use Rattle.typed_expr.specs.declared.query.Capture.{Capture}
-use Rattle.typed_expr.specs.declared.query.What.{What}
-use Rattle.typed_expr.specs.declared.query.What.TheVariants as what
+use Rattle.typed_query.specs.declared.expr.Expr.{Expr}
+use Rattle.typed_query.specs.declared.expr.Expr.TheVariants as expr
+use Rattle.typed_query.specs.declared.query.Capture.{Capture}
+use Rattle.typed_query.specs.declared.query.What.{What}
+use Rattle.typed_query.specs.declared.query.What.TheVariants as what
 use Rattle.typed_expr.specs.declared.scope.Declared.{Declared}
 use Rattle.typed_expr.specs.Kinds.{property_in}
 use Rattle.typed_expr.specs.Meaning.{captured, date_value, meant}
 use Rattle.typed_expr.specs.Names.{variable_of}
-use Rattle.typed_expr.specs.Parts.{HasCapturesBelow, HasValidConstants}
+use Rattle.typed_query.specs.Parts.{HasCapturesBelow, HasValidConstants}
 use Rattle.typed_expr.specs.Uses.{literals, property_of_variable, property_use, same_use, same_what, use_of, uses}
 use Rattle.typed_expr.proofs.Added.{IsIn, all-join, all-split, position-within}
 use Rattle.typed_expr.proofs.AstByParts.{by_parts}
 use Rattle.typed_expr.proofs.Cases as cases
 use Rattle.typed_expr.proofs.Days.{date_is_day}
-use Rattle.typed_expr.proofs.Parts as parts
+use Rattle.typed_query.proofs.Parts as parts
 use Rattle.typed_expr.proofs.Scopes.{variable_found}
 
 pub use-itself : (a : Capture) → same_use a a ≡ true

@@ -1,6 +1,6 @@
 -- The query of a tree without faults is well formed, and its constants are valid.
-use Rattle.std.proofs.Common.{◌≡◌, ◌∙◌, refl, sym, ap, subst, ℕ, suc, ◌+◌, ◌≤◌, ◌<◌, Bool, true, false, List, [], ◌∷◌, ◌++◌, length, map, Option, Some, None, arith}
-use Rattle.std.specs.Prelude.{find, flat_map, fold, slice_index, All}
+use Rattle.std.proofs.Common.{◌≡◌, ◌∙◌, refl, sym, ap, subst, ℕ, suc, ◌+◌, ◌≤◌, ◌<◌, Bool, true, false, List, [], ◌∷◌, ◌++◌, length, map, Option, Some, None, Result, Ok, Err, arith}
+use Rattle.std.specs.Prelude.{find, flat_map, fold, slice_index, All, IfOk}
 use Rattle.std.specs.List.{AllByRecursion, Contains, list_any}
 use Rattle.std.specs.Option.{option_and_then}
 use Rattle.std.specs.Str.{bytes_eq}
@@ -14,40 +14,32 @@ use Rattle.pgql_tree.specs.declared.ast.Item.{Item}
 use Rattle.pgql_tree.specs.declared.ast.Key.{Key}
 use Rattle.pgql_tree.specs.declared.ast.Op.{Op}
 use Rattle.value_text.specs.Texts.{with_text}
-use Rattle.typed_expr.specs.declared.expr.Expr.{Expr}
-use Rattle.typed_expr.specs.declared.expr.Expr.TheVariants as expr
+use Rattle.typed_query.specs.declared.expr.Expr.{Expr}
+use Rattle.typed_query.specs.declared.expr.Expr.TheVariants as expr
 use Rattle.typed_expr.specs.declared.fault.TypeFault.{TypeFault}
-use Rattle.typed_expr.specs.declared.query.Capture.{Capture}
+use Rattle.typed_query.specs.declared.query.Capture.{Capture}
+use Rattle.typed_query.specs.declared.query.Query.{Query}
 use Rattle.typed_expr.specs.declared.scope.Declared.{Declared}
 use Rattle.typed_expr.specs.declared.scope.Scope.{Scope}
-use Rattle.typed_expr.specs.Faults.{earlier, earlier_of, first_of}
 use Rattle.typed_expr.specs.Joined.{disconnected, groups_of}
 use Rattle.typed_expr.specs.Kinds.{checked}
 use Rattle.typed_expr.specs.Meaning.{conjuncts, is_and, meant}
-use Rattle.typed_expr.specs.Parts.{HasCapturesBelow, HasValidConstants}
+use Rattle.typed_query.specs.Parts.{HasCapturesBelow, HasValidConstants}
 use Rattle.typed_expr.specs.Same.{same}
 use Rattle.typed_expr.specs.Scope.{scope_of}
 use Rattle.typed_expr.specs.Typed as spec
 use Rattle.typed_expr.specs.Uses.{literals, same_use, uses}
-use Rattle.typed_expr.specs.WellFormed.{IsClosed, IsVertex, IsWellFormed, JoinsVertices, are_edges, edges_from, expressions, vertices_from}
+use Rattle.typed_query.specs.WellFormed.{IsClosed, IsVertex, IsWellFormed, JoinsVertices, are_edges, edges_from, expressions, vertices_from}
 use Rattle.typed_expr.proofs.Added.{IsIn, added-keep, all-added, all-join, all-split}
 use Rattle.typed_expr.proofs.Conjuncts as conj
-use Rattle.typed_expr.proofs.ExprByParts.{by_parts}
+use Rattle.typed_query.proofs.ExprByParts.{by_parts}
 use Rattle.typed_expr.proofs.Flags.{at_vertex, vertices_and_edges}
 use Rattle.typed_expr.proofs.Groups.{from_zero, in_first_group, tells-groups}
+use Rattle.typed_expr.proofs.Outcomes.{given}
 use Rattle.typed_expr.proofs.Meanings.{IsCaptured, IsText, NamesVariable, meant-captured, meant-same, meant-valid, text-itself, use-itself, uses-name_variables}
-use Rattle.typed_expr.proofs.Parts.{below_left, below_right, left-Binary, right-Binary}
+use Rattle.typed_query.proofs.Parts.{below_left, below_right, left-Binary, right-Binary}
 use Rattle.typed_expr.proofs.SameLaw.{is_told}
 use Rattle.typed_expr.proofs.Scopes.{IsSound, edges_in, first-is-vertex, scope-sound}
-
-some_stays : (f : TypeFault) (faults : List TypeFault) → (e : TypeFault) × (fold earlier_of (Some f) faults ≡ Some e)
-some_stays f [] = (f, refl)
-some_stays f (g ∷ faults) = some_stays (earlier f g) faults
-
--- where no fault is the first, there is none
-pub no_faults : (faults : List TypeFault) → first_of faults ≡ None → faults ≡ []
-no_faults [] none = refl
-no_faults (f ∷ faults) none = let found = some_stays f faults in absurd (let both : ◌≡◌ {A = Option TypeFault} (Some found.0) None = sym found.1 ∙ none in cc)
 
 none_of_both : {X : Type 0} (xs ys : List X) → xs ++ ys ≡ [] → (xs ≡ []) × (ys ≡ [])
 none_of_both [] ys none = (refl, none)
@@ -219,12 +211,10 @@ none_of schema ast scope none =
     let doubled = spec.double_names [] ast.items in
     let items = flat_map (λ item. spec.faults_in (checked schema scope.variables item.expr).kind) ast.items in
     let apart = disconnected (groups_of (length scope.variables) scope.links) scope.vertices in
-    let fifth = none_of_both (scope.faults ++ apart ++ items ++ doubled ++ condition) keys none in
-    let fourth = none_of_both (scope.faults ++ apart ++ items ++ doubled) condition fifth.0 in
-    let third = none_of_both (scope.faults ++ apart ++ items) doubled fourth.0 in
-    let second = none_of_both (scope.faults ++ apart) items third.0 in
-    let first = none_of_both scope.faults apart second.0 in
-    record { declared = first.0; joined = first.1; keys = fifth.1 }
+    let both = none_of_both (scope.faults ++ apart) (spec.expression_faults schema scope.variables ast) none in
+    let pattern = none_of_both scope.faults apart both.0 in
+    let expressions = none_of_both (items ++ doubled ++ condition) keys both.1 in
+    record { declared = pattern.0; joined = pattern.1; keys = expressions.1 }
 
 module _ (schema : SchemaLists) (ast : Ast) (scope : Scope) (texts : List (List ℕ)) where
   all_captured : AllByRecursion (IsCaptured schema scope.variables (spec.captures_of schema scope.variables ast) texts) (spec.of_all (uses schema scope.variables) ast)
@@ -281,3 +271,19 @@ module _ (schema : SchemaLists) (ast : Ast) (scope : Scope) (texts : List (List 
       All-from_recursion (HasValidConstants texts) (expressions (spec.query_of schema ast scope texts))
       (each_expression (HasValidConstants texts) valid_sides literals (IsText schema scope.variables captures texts) (meant schema scope.variables captures texts)
       (meant-valid schema scope.variables captures texts) ast scope captures all)
+
+-- what was given as the meaning of a tree
+module _ (schema : SchemaLists) (old new : List (List ℕ)) (ast : Ast) where
+  pub given-well_formed : (answer : Result Query TypeFault) → spec.Gives old new answer (spec.typed schema old ast) → 0 < length ast.paths → IfOk answer IsWellFormed
+  unfolding spec.typed
+  given-well_formed (Err e) gives some = tt
+  given-well_formed (Ok query) gives some =
+      let parts = given schema old new ast (scope_of ast.paths) query gives in
+      subst IsWellFormed (sym parts.2) (well_formed schema ast (scope_of ast.paths) new some refl parts.0)
+
+  pub given-valid : (answer : Result Query TypeFault) → spec.Gives old new answer (spec.typed schema old ast) → IfOk answer (λ query. All (HasValidConstants new) (expressions query))
+  unfolding spec.typed
+  given-valid (Err e) gives = tt
+  given-valid (Ok query) gives =
+      let parts = given schema old new ast (scope_of ast.paths) query gives in
+      subst (λ q. All (HasValidConstants new) (expressions q)) (sym parts.2) (constants_valid schema ast (scope_of ast.paths) new old parts.1)

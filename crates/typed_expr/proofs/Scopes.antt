@@ -12,12 +12,12 @@ use Rattle.pgql_tree.specs.declared.ast.Placed.{Placed}
 use Rattle.pgql_tree.specs.declared.ast.VertexPat.{VertexPat}
 use Rattle.typed_expr.specs.declared.fault.TypeFault.{TypeFault}
 use Rattle.typed_expr.specs.declared.fault.TypeFault.TheVariants as fault
-use Rattle.typed_expr.specs.declared.query.EdgeJoin.{EdgeJoin}
+use Rattle.typed_query.specs.declared.query.EdgeJoin.{EdgeJoin}
 use Rattle.typed_expr.specs.declared.scope.Declared.{Declared}
 use Rattle.typed_expr.specs.declared.scope.Scope.{Scope}
 use Rattle.typed_expr.specs.Names.{is_name, variable_from, variable_of}
 use Rattle.typed_expr.specs.Scope as spec
-use Rattle.typed_expr.specs.WellFormed.{IsVertex, JoinsVertices, edges_from, vertices_from}
+use Rattle.typed_query.specs.WellFormed.{IsVertex, JoinsVertices, edges_from, vertices_from}
 use Rattle.typed_expr.proofs.Flags.{edges-push_edge, edges-push_vertex, get-push, get-pushed, vertices-push_edge, vertices-push_vertex}
 use Rattle.typed_expr.proofs.Groups.{LinksWithin, from_zero}
 

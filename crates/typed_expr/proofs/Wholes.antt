@@ -1,6 +1,6 @@
 -- What all expressions of a query have, taken part by part.
-use Rattle.std.proofs.Common.{◌≡◌, ◌+◌, List, ◌++◌, length, sym, ap, ◌∙◌}
-use Rattle.std.specs.Prelude.{fold, flat_map}
+use Rattle.std.proofs.Common.{◌≡◌, ◌+◌, List, ◌++◌, length, Result, Ok, Err, sym, ap, ◌∙◌}
+use Rattle.std.specs.Prelude.{fold, flat_map, OnOk}
 use Rattle.std.proofs.lemmas.List.{length-append}
 use Rattle.std.proofs.lemmas.List.Sums.{fold-append}
 use Rattle.pgql_tree.specs.declared.ast.Ast.{Ast}
@@ -26,3 +26,8 @@ length-of_all f ast =
     let condition = of_condition f ast.condition in
     let keys = flat_map (λ key. f key.expr) ast.keys in
     length-append items (condition ++ keys) ∙ ap (λ n. length items + n) (length-append condition keys)
+
+-- what follows from a call's clause, where it succeeds
+pub on_ok : {T E P Q : Type 0} (answer : Result T E) → OnOk answer P → (P → Q) → OnOk answer Q
+on_ok (Ok x) known follows = follows known
+on_ok (Err e) known follows = tt

@@ -4,11 +4,11 @@ pub mod Kinds
 pub mod Laws
 pub mod Meaning
 pub mod Names
-pub mod Parts
+pub use Rattle.typed_query.specs.Parts
 pub mod Printed
 pub mod Same
 pub mod Scope
 pub mod Typed
 pub mod Uses
-pub mod Val
-pub mod WellFormed
+pub use Rattle.typed_query.specs.Val
+pub use Rattle.typed_query.specs.WellFormed

@@ -10,12 +10,12 @@ use Rattle.pgql_tree.specs.declared.ast.Op.{Op}
 use Rattle.pgql_tree.specs.declared.ast.Op.TheVariants as op
 use Rattle.value_text.specs.Dates.{date_cell}
 use Rattle.value_text.specs.Texts.{number_of}
-use Rattle.typed_expr.specs.declared.expr.Expr.{Expr}
-use Rattle.typed_expr.specs.declared.expr.Expr.TheVariants as expr
-use Rattle.typed_expr.specs.declared.expr.Expr.TheOpen.{Expr-F}
-use Rattle.typed_expr.specs.declared.expr.Expr.TheFolds.{para-Expr}
-use Rattle.typed_expr.specs.declared.query.Capture.{Capture}
-use Rattle.typed_expr.specs.declared.query.What.TheVariants as what
+use Rattle.typed_query.specs.declared.expr.Expr.{Expr}
+use Rattle.typed_query.specs.declared.expr.Expr.TheVariants as expr
+use Rattle.typed_query.specs.declared.expr.Expr.TheOpen.{Expr-F}
+use Rattle.typed_query.specs.declared.expr.Expr.TheFolds.{para-Expr}
+use Rattle.typed_query.specs.declared.query.Capture.{Capture}
+use Rattle.typed_query.specs.declared.query.What.TheVariants as what
 use Rattle.typed_expr.specs.declared.scope.Declared.{Declared}
 use Rattle.typed_expr.specs.Names.{variable_of}
 use Rattle.graph_tables.specs.Properties.{SchemaLists}

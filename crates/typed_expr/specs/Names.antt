@@ -1,5 +1,6 @@
 -- Which variable a name stands for.
-use Rattle.std.specs.Prelude.{ℕ, ◌+◌, Bool, false, if◌then◌else◌, List, [], ◌∷◌, Option, Some, None}
+use Rattle.std.specs.Prelude.{◌≡◌, ℕ, ◌+◌, Bool, false, if◌then◌else◌, List, [], ◌∷◌, length, Option, Some, None}
+use Rattle.std.specs.List.{position_or_len, slice_get}
 use Rattle.std.specs.Str.{bytes_eq}
 use Rattle.typed_expr.specs.declared.scope.Declared.{Declared}
 
@@ -16,3 +17,8 @@ variable_from number (variable ∷ variables) name =
 -- the number of the variable with this name, and whether it is an edge
 abbrev pub variable_of : List Declared → List ℕ → Option (ℕ × Bool)
 variable_of variables name = variable_from 0 variables name
+
+-- A list of distinct names, with a variable's number for each, tells what every name stands for.
+pub record IsIndexed (variables : List Declared) (names : List (List ℕ)) (first : List (ℕ × Bool)) : Type 0 where
+  pub one_each : length first ≡ length names
+  pub looked_up : (name : List ℕ) → variable_of variables name ≡ slice_get first (position_or_len (bytes_eq name) names)

@@ -7,7 +7,7 @@ use Rattle.pgql_tree.specs.declared.ast.Path.{Path}
 use Rattle.pgql_tree.specs.declared.ast.Placed.{Placed}
 use Rattle.typed_expr.specs.declared.fault.TypeFault.{TypeFault}
 use Rattle.typed_expr.specs.declared.fault.TypeFault.TheVariants as fault
-use Rattle.typed_expr.specs.declared.query.EdgeJoin.{EdgeJoin}
+use Rattle.typed_query.specs.declared.query.EdgeJoin.{EdgeJoin}
 use Rattle.typed_expr.specs.declared.scope.Scope.{Scope}
 use Rattle.typed_expr.specs.Names.{variable_of}
 

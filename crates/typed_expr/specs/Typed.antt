@@ -13,12 +13,12 @@ use Rattle.pgql_tree.specs.declared.ast.AstExpr.TheOpen.{AstExpr-F}
 use Rattle.pgql_tree.specs.declared.ast.AstExpr.TheFolds.{fold-AstExpr}
 use Rattle.pgql_tree.specs.Literals.{query_literals}
 use Rattle.value_text.specs.Texts.{Kept, with_text}
-use Rattle.typed_expr.specs.declared.expr.Expr.{Expr}
+use Rattle.typed_query.specs.declared.expr.Expr.{Expr}
 use Rattle.typed_expr.specs.declared.fault.TypeFault.{TypeFault}
 use Rattle.typed_expr.specs.declared.fault.TypeFault.TheVariants as fault
-use Rattle.typed_expr.specs.declared.query.Capture.{Capture}
-use Rattle.typed_expr.specs.declared.query.Query.{Query}
-use Rattle.typed_expr.specs.declared.query.Variable.{Variable}
+use Rattle.typed_query.specs.declared.query.Capture.{Capture}
+use Rattle.typed_query.specs.declared.query.Query.{Query}
+use Rattle.typed_query.specs.declared.query.Variable.{Variable}
 use Rattle.typed_expr.specs.declared.scope.Declared.{Declared}
 use Rattle.typed_expr.specs.declared.scope.Scope.{Scope}
 use Rattle.typed_expr.specs.Faults.{first_of}
@@ -81,15 +81,18 @@ key_faults_by schema variables distinct items key None = faults_in (checked sche
 abbrev pub key_faults : SchemaLists → List Declared → Bool → List Item → Key → List TypeFault
 key_faults schema variables distinct items key = key_faults_by schema variables distinct items key (item_of items key.expr)
 
+-- the faults of the expressions, the AS names and the order keys
+abbrev pub expression_faults : SchemaLists → List Declared → Ast → List TypeFault
+expression_faults schema variables ast =
+    flat_map (λ item. faults_in (checked schema variables item.expr).kind) ast.items
+    ++ double_names [] ast.items
+    ++ condition_faults schema variables ast.condition
+    ++ flat_map (key_faults schema variables ast.distinct ast.items) ast.keys
+
 -- all faults of a query whose patterns declare this
 abbrev pub faults_of : SchemaLists → Ast → Scope → List TypeFault
 faults_of schema ast scope =
-    scope.faults
-    ++ disconnected (groups_of (length scope.variables) scope.links) scope.vertices
-    ++ flat_map (λ item. faults_in (checked schema scope.variables item.expr).kind) ast.items
-    ++ double_names [] ast.items
-    ++ condition_faults schema scope.variables ast.condition
-    ++ flat_map (key_faults schema scope.variables ast.distinct ast.items) ast.keys
+    scope.faults ++ disconnected (groups_of (length scope.variables) scope.links) scope.vertices ++ expression_faults schema scope.variables ast
 
 abbrev pub of_condition : {X : Type 0} → (AstExpr → List X) → Option AstExpr → List X
 of_condition f None = []
@@ -137,6 +140,14 @@ abbrev pub conjuncts_of : (AstExpr → Expr) → Option AstExpr → List Expr
 conjuncts_of means None = []
 conjuncts_of means (Some condition) = conjuncts (means condition)
 
+-- the columns: what each item means, and its name
+abbrev pub select_of : (AstExpr → Expr) → List Item → List (Expr × List ℕ)
+select_of means items = map (λ item. (means item.expr, column_of item)) items
+
+-- the order keys, each with whether it goes down
+abbrev pub keys_of : (AstExpr → Expr) → List Item → List Key → List (Expr × Bool)
+keys_of means items keys = map (λ key. (means (key_expr items key.expr), key.down)) keys
+
 -- the query, where an expression means this
 abbrev pub query_by : Ast → Scope → List Capture → (AstExpr → Expr) → Query
 query_by ast scope captures means = record {
@@ -144,8 +155,8 @@ query_by ast scope captures means = record {
   edges = scope.edges;
   captures = captures;
   conjuncts = conjuncts_of means ast.condition;
-  select = map (λ item. (means item.expr, column_of item)) ast.items;
-  keys = map (λ key. (means (key_expr ast.items key.expr), key.down)) ast.keys;
+  select = select_of means ast.items;
+  keys = keys_of means ast.items ast.keys;
   distinct = ast.distinct;
   limit = ast.limit;
 }
@@ -160,9 +171,13 @@ abbrev pub typed_by : SchemaLists → List (List ℕ) → Ast → Scope → Opti
 typed_by schema texts ast scope (Some e) = Err e
 typed_by schema texts ast scope None = let all = fold with_text texts (all_literals ast) in Ok (query_of schema ast scope all, all)
 
+-- the first fault of a query whose patterns declare this
+abbrev pub first_fault : SchemaLists → Ast → Scope → Option TypeFault
+first_fault schema ast scope = first_of (faults_of schema ast scope)
+
 -- the query and the texts with those of its literals, or its first fault
 unfoldable pub typed : SchemaLists → List (List ℕ) → Ast → Result (Query × List (List ℕ)) TypeFault
-typed schema texts ast = let scope = scope_of ast.paths in typed_by schema texts ast scope (first_of (faults_of schema ast scope))
+typed schema texts ast = let scope = scope_of ast.paths in typed_by schema texts ast scope (first_fault schema ast scope)
 
 -- The call returned what the tree means, and left the texts so. For want of memory further texts may be there, and
 -- at a fault none are.

@@ -7,9 +7,9 @@ use Rattle.pgql_tree.specs.declared.ast.AstExpr.TheOpen.{AstExpr-F}
 use Rattle.pgql_tree.specs.declared.ast.AstExpr.TheFolds.{fold-AstExpr}
 pub use Rattle.pgql_tree.specs.Literals.{literals_of}
 unfoldable pub use Rattle.pgql_tree.specs.Literals.{literals}
-use Rattle.typed_expr.specs.declared.query.Capture.{Capture}
-use Rattle.typed_expr.specs.declared.query.What.{What}
-use Rattle.typed_expr.specs.declared.query.What.TheVariants as what
+use Rattle.typed_query.specs.declared.query.Capture.{Capture}
+use Rattle.typed_query.specs.declared.query.What.{What}
+use Rattle.typed_query.specs.declared.query.What.TheVariants as what
 use Rattle.typed_expr.specs.declared.scope.Declared.{Declared}
 use Rattle.typed_expr.specs.Kinds.{property_in}
 use Rattle.typed_expr.specs.Names.{variable_of}

@@ -1,8 +1,9 @@
 //! Which vertices edge patterns join.
-ghost use Rattle.std.specs.Prelude.{◌≡◌, ◌<◌, ◌++◌, IfOk, OnOk, slice_index};
+ghost use Rattle.std.specs.Prelude.{◌≡◌, ◌<◌, ◌++◌, IfOk, OnOk, length, slice_index};
 ghost use Rattle.typed_expr.specs.Joined as spec;
 
 use crate::fault::TypeFault;
+use crate::scope::Scope;
 use adfs_base::NoMemory;
 use sqlite_items::Items;
 use std::alloc::Global;
@@ -52,15 +53,14 @@ fn groups_of(alloc: Global, count: usize, links: &[(usize, usize)]) -> Result<Ve
 /// Adds the faults of vertices that aren't joined with the first variable.
 pub fn add_disconnected(
     alloc: Global,
-    count: usize,
-    links: &[(usize, usize)],
-    vertices: &[(usize, u32)],
+    scope: &Scope,
     faults: &mut Items<TypeFault>,
 ) -> Result<(), NoMemory>
-    ensures { OnOk result (faults.new ≡ faults.old ++ spec.disconnected (spec.groups_of count links.now) vertices.now) }
+    ensures { OnOk result (faults.new ≡ faults.old ++ spec.disconnected (spec.groups_of (length scope.now.variables) scope.now.links) scope.now.vertices) }
 {
-    let groups = groups_of(alloc, count, links)?;
+    let groups = groups_of(alloc, scope.variables.len(), scope.links.as_slice())?;
     let first = group_at(groups.as_slice(), 0);
+    let vertices = scope.vertices.as_slice();
     for (number, at) in vertices {
         if group_at(groups.as_slice(), *number) != first {
             faults.push(TypeFault::Disconnected(*at))?;

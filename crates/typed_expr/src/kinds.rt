@@ -6,9 +6,8 @@ ghost use Rattle.typed_expr.specs.Kinds as spec;
 ghost use Rattle.typed_expr.specs.Names.{variable_of};
 ghost use Rattle.value_text.specs.Dates.{date_cell};
 
+use crate::declarations::Declarations;
 use crate::fault::TypeFault;
-use crate::scope;
-use crate::scope::Declared;
 use adfs_base::{Kind, Name};
 use graph_tables::Schema;
 use pgql_tree::{AstExpr, Op};
@@ -183,11 +182,11 @@ fn used_as(
     kind: Result<Kind, TypeFault>,
     variable: &Name,
     at: u32,
-    variables: &[Declared],
+    variables: &Declarations,
 ) -> Result<Kind, TypeFault>
     ensures { result ≡ spec.used_as kind at (variable_of variables.now variable.now) }
 {
-    match scope::variable_of(variables, variable) {
+    match variables.variable_of(variable) {
         Some(_) => kind,
         None => Err(TypeFault::UnknownName(at)),
     }
@@ -208,12 +207,12 @@ fn property_kind(
     variable: &Name,
     property: &Name,
     at: u32,
-    variables: &[Declared],
+    variables: &Declarations,
     schema: &Schema,
 ) -> Result<Kind, TypeFault>
     ensures { result ≡ spec.kind_of_use schema.now property.now at (variable_of variables.now variable.now) }
 {
-    match scope::variable_of(variables, variable) {
+    match variables.variable_of(variable) {
         Some((_, edge)) => match property_in(schema, edge, property) {
             Some((_, kind)) => Ok(kind),
             None => Err(TypeFault::UnknownProperty(at)),
@@ -230,7 +229,7 @@ fn found(at: u32, kind: Result<Kind, TypeFault>) -> Checked
 }
 
 /// An expression's place, and its kind or the first fault in it.
-pub fn check(expr: &AstExpr, variables: &[Declared], schema: &Schema) -> Checked
+pub fn check(expr: &AstExpr, variables: &Declarations, schema: &Schema) -> Checked
     ensures { result ≡ spec.checked schema.now variables.now expr.now }
 {
     match expr {

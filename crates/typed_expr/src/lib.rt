@@ -1,43 +1,39 @@
-//! What queries mean: the variables and properties that their names stand for, and the values of their
-//! expressions.
+//! What queries mean: the variables and properties that their names stand for.
 //!
 //! `type_query` gives exactly the query that a tree means, or the first reason why it means nothing (`typed`,
 //! specs/Typed.antt). A query's faults are a list: those of its patterns (specs/Scope.antt), of vertices that
 //! no edge joins (specs/Joined.antt), of its expressions (specs/Kinds.antt), and of its AS names and order
 //! keys. The one of the least place is told, and of several there the one of the least number. Where there is
 //! none, names give way to numbers: an expression's use of a variable is the place of its captured value
-//! (specs/Uses.antt, specs/Meaning.antt). What each query keeps to, whoever takes it, is `IsWellFormed`
-//! (specs/WellFormed.antt).
+//! (specs/Uses.antt, specs/Meaning.antt).
 //!
-//! An expression is seen as the tree that it is. `value` gives exactly its value (`val`, specs/Val.antt) over
-//! captured values: SQL's three-valued logic, whole numbers of 64 bits where a result that they lack is null,
-//! and comparisons of two values of one kind. It answers for every tree and takes no memory, and what it gives
-//! is valid under the texts if the tree's constants and the captured values are.
+//! Queries after typing and the values of their expressions are those of `typed_query`, and go by the same
+//! names here. What `type_query` gives is well formed (`IsWellFormed`), and its constants are valid under the
+//! texts, so that `value` may take each of its expressions.
 #![tactic(auto)]
 
+mod build;
+mod captures;
 mod count;
-mod evaluate;
-mod expr;
+mod declarations;
+pub mod expr;
 mod fault;
+mod faults;
+mod items;
 mod joined;
 mod kinds;
 pub mod laws;
+mod literals;
 mod meaning;
 mod printed;
-mod query;
-mod same;
+pub mod query;
 mod scope;
 mod typing;
 mod uses;
 
 pub use count::literal_count;
-pub use evaluate::{passes, value};
 pub use expr::Expr;
 pub use fault::TypeFault;
 pub use query::{Capture, EdgeJoin, Query, Variable, What};
+pub use typed_query::{passes, value};
 pub use typing::type_query;
-
-#[cfg(test)]
-mod tests;
-#[cfg(test)]
-mod value_tests;

@@ -4,13 +4,16 @@ ghost use Rattle.std.specs.List.{position_or_len};
 ghost use Rattle.value_text.specs.Dates.{date_cell};
 ghost use Rattle.value_text.specs.Texts.{number_of};
 ghost use Rattle.typed_expr.specs.Meaning as spec;
+ghost use Rattle.typed_expr.specs.Names.{variable_of};
 ghost use Rattle.typed_expr.specs.Uses as uses;
+ghost use Rattle.typed_query.specs.declared.expr.Expr.TheVariants as e;
 
+use crate::declarations::Declarations;
 use crate::expr::Expr;
 use crate::query::{Capture, What};
-use crate::scope::{Declared, short};
+use crate::scope::short;
 use crate::uses::{property_use, same_use, use_of};
-use adfs_base::{NoMemory, Value};
+use adfs_base::{Name, NoMemory, Value};
 use graph_tables::Schema;
 use pgql_tree::{AstExpr, Op};
 use sqlite_items::{Boxed, Items};
@@ -21,7 +24,7 @@ use value_text::{Texts, read_date};
 #[derive(Clone, Copy)]
 pub struct Scene<'a> {
     pub alloc: Global,
-    pub variables: &'a [Declared],
+    pub variables: &'a Declarations,
     pub schema: &'a Schema,
     pub captures: &'a [Capture],
     pub texts: &'a Texts,
@@ -71,6 +74,47 @@ fn text_value(content: &Items<u8>, texts: &Texts) -> Value
     }
 }
 
+// What the key or the label of a variable means.
+fn meant_use(what: What, variable: &Name, scene: Scene<'_>) -> Result<Expr, NoMemory>
+    ensures { IfOk result (λ found. found ≡ spec.captured scene.entry.captures.now (uses.use_of what (variable_of scene.entry.variables.now variable.now))) }
+{
+    let used = use_of(what, variable, scene.variables)?;
+    captured(scene.captures, used)
+}
+
+// What a property of a variable means.
+fn meant_property(variable: &Name, property: &Name, scene: Scene<'_>) -> Result<Expr, NoMemory>
+    ensures { IfOk result (λ found. found ≡ spec.captured scene.entry.captures.now (uses.property_use scene.entry.schema.now property.now (variable_of scene.entry.variables.now variable.now))) }
+{
+    let used = property_use(variable, property, scene.variables, scene.schema)?;
+    captured(scene.captures, used)
+}
+
+fn negation(alloc: Global, part: Expr) -> Result<Expr, NoMemory>
+    ensures { IfOk result (λ found. found ≡ e.Not part) }
+{
+    Ok(Expr::Not(Boxed::new(alloc, part)?))
+}
+
+fn minus(alloc: Global, part: Expr) -> Result<Expr, NoMemory>
+    ensures { IfOk result (λ found. found ≡ e.Neg part) }
+{
+    Ok(Expr::Neg(Boxed::new(alloc, part)?))
+}
+
+fn null_test(alloc: Global, part: Expr, negated: bool) -> Result<Expr, NoMemory>
+    ensures { IfOk result (λ found. found ≡ e.IsNull part negated) }
+{
+    Ok(Expr::IsNull(Boxed::new(alloc, part)?, negated))
+}
+
+fn binary(alloc: Global, op: Op, left: Expr, right: Expr) -> Result<Expr, NoMemory>
+    ensures { IfOk result (λ found. found ≡ e.Binary op left right) }
+{
+    let left = Boxed::new(alloc, left)?;
+    Ok(Expr::Binary(op, left, Boxed::new(alloc, right)?))
+}
+
 /// What an expression means.
 pub fn meant(expr: &AstExpr, scene: Scene<'_>) -> Result<Expr, NoMemory>
     ensures { IfOk result (λ found. found ≡ spec.meant scene.entry.schema.now scene.entry.variables.now scene.entry.captures.now scene.entry.texts.now expr.now) }
@@ -85,44 +129,25 @@ pub fn meant(expr: &AstExpr, scene: Scene<'_>) -> Result<Expr, NoMemory>
             variable,
             property,
             ..
-        } => {
-            let used = property_use(variable, property, scene.variables, scene.schema)?;
-            captured(scene.captures, used)
-        }
-        AstExpr::Id { variable, .. } => {
-            let used = use_of(What::Id, &variable.name, scene.variables)?;
-            captured(scene.captures, used)
-        }
-        AstExpr::Label { variable, .. } => {
-            let used = use_of(What::Label, &variable.name, scene.variables)?;
-            captured(scene.captures, used)
-        }
-        AstExpr::Not { inside, .. } => {
-            let part = meant(inside.get(), scene)?;
-            Ok(Expr::Not(Boxed::new(scene.alloc, part)?))
-        }
-        AstExpr::Neg { inside, .. } => {
-            let part = meant(inside.get(), scene)?;
-            Ok(Expr::Neg(Boxed::new(scene.alloc, part)?))
-        }
+        } => meant_property(variable, property, scene),
+        AstExpr::Id { variable, .. } => meant_use(What::Id, &variable.name, scene),
+        AstExpr::Label { variable, .. } => meant_use(What::Label, &variable.name, scene),
+        AstExpr::Not { inside, .. } => negation(scene.alloc, meant(inside.get(), scene)?),
+        AstExpr::Neg { inside, .. } => minus(scene.alloc, meant(inside.get(), scene)?),
         AstExpr::IsNull {
             inside,
             negated,
             ..
-        } => {
-            let part = meant(inside.get(), scene)?;
-            Ok(Expr::IsNull(Boxed::new(scene.alloc, part)?, *negated))
-        }
+        } => null_test(scene.alloc, meant(inside.get(), scene)?, *negated),
         AstExpr::Binary {
             op,
             left,
             right,
             ..
         } => {
-            let a = meant(left.get(), scene)?;
-            let b = meant(right.get(), scene)?;
-            let a = Boxed::new(scene.alloc, a)?;
-            Ok(Expr::Binary(*op, a, Boxed::new(scene.alloc, b)?))
+            let left = meant(left.get(), scene)?;
+            let right = meant(right.get(), scene)?;
+            binary(scene.alloc, *op, left, right)
         }
     }
 }

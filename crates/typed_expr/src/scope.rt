@@ -1,9 +1,10 @@
 //! What the patterns of MATCH declare.
 ghost use Rattle.std.specs.Prelude.{◌≡◌, ◌++◌, ◌∷◌, [], IfOk, OnOk, Option, Some, None, fold, length};
-ghost use Rattle.typed_expr.specs.Names as names;
+ghost use Rattle.std.specs.Option.{option_copied};
 ghost use Rattle.typed_expr.specs.Scope as spec;
 ghost use Rattle.typed_expr.specs.Scope.{Gives};
 
+use crate::declarations::Declarations;
 use crate::fault::TypeFault;
 use crate::query::EdgeJoin;
 use adfs_base::{EDGE_VARIABLES, Name, NoMemory, VERTEX_VARIABLES};
@@ -15,7 +16,7 @@ use std::alloc::Global;
 #[derive(Drop)]
 pub struct Scope {
     /// In order of first appearance.
-    pub variables: Items<Declared>,
+    pub variables: Declarations,
     /// Label lists, each with the number of its variable.
     pub labels: Items<(usize, Items<Name>)>,
     /// The numbers of the vertex variables, each with the place of its first pattern.
@@ -34,31 +35,6 @@ pub struct Declared {
     pub edge: bool,
 }
 
-fn is_name(name: &Name, own: &Option<Name>) -> bool
-    ensures { result ≡ names.is_name name.now own.now }
-{
-    match own {
-        Some(own) => own.text() == name.text(),
-        None => false,
-    }
-}
-
-/// The number of the variable with this name, and whether it is an edge.
-pub fn variable_of(variables: &[Declared], name: &Name) -> Option<(usize, bool)>
-    ensures { result ≡ names.variable_of variables.now name.now }
-{
-    let mut number = 0;
-    let mut rest = variables;
-    while let [variable, more @ ..] = rest {
-        if is_name(name, &variable.name) {
-            return Some((number, variable.edge));
-        }
-        number += 1;
-        rest = more;
-    }
-    None
-}
-
 /// A name of its own with the same text.
 pub fn copied(alloc: Global, name: &Name) -> Result<Name, NoMemory>
     ensures { IfOk result (λ copy. copy ≡ name.now) }
@@ -66,14 +42,39 @@ pub fn copied(alloc: Global, name: &Name) -> Result<Name, NoMemory>
     Name::new(alloc, name.text())
 }
 
+/// The same, of a name that may be none.
+pub fn name_of(alloc: Global, name: Option<&Name>) -> Result<Option<Name>, NoMemory>
+    ensures { IfOk result (λ copy. copy ≡ option_copied name.entry) }
+{
+    match name {
+        Some(name) => Ok(Some(copied(alloc, name)?)),
+        None => Ok(None),
+    }
+}
+
+fn add_copy(alloc: Global, name: &Name, copies: &mut Items<Name>) -> Result<(), NoMemory>
+    ensures { OnOk result (copies.new ≡ copies.old ++ name.now ∷ []) }
+{
+    let copy = copied(alloc, name)?;
+    copies.push(copy)?;
+    Ok(())
+}
+
+fn add_copies(alloc: Global, names: &[Name], copies: &mut Items<Name>) -> Result<(), NoMemory>
+    ensures { OnOk result (copies.new ≡ copies.old ++ names.now) }
+{
+    for name in names {
+        add_copy(alloc, name, copies)?;
+    }
+    Ok(())
+}
+
 /// Names of their own with the same texts.
 pub fn copies(alloc: Global, names: &[Name]) -> Result<Items<Name>, NoMemory>
     ensures { IfOk result (λ copies. copies ≡ names.now) }
 {
     let mut copies = Items::new(alloc);
-    for name in names {
-        copies.push(copied(alloc, name)?)?;
-    }
+    add_copies(alloc, names, &mut copies)?;
     Ok(copies)
 }
 
@@ -89,7 +90,7 @@ impl Scope {
         ensures { result ≡ spec.nothing_declared }
     {
         Scope {
-            variables: Items::new(alloc),
+            variables: Declarations::new(alloc),
             labels: Items::new(alloc),
             vertices: Items::new(alloc),
             edges: Items::new(alloc),
@@ -110,8 +111,8 @@ impl Scope {
         if labels.len() == 0 {
             return Ok(());
         }
-        self.labels
-            .push((number, copies(alloc, labels.as_slice())?))?;
+        let copies = copies(alloc, labels.as_slice())?;
+        self.labels.push((number, copies))?;
         Ok(())
     }
 
@@ -122,21 +123,28 @@ impl Scope {
         Ok(())
     }
 
+    fn declare(&mut self, alloc: Global, name: Option<&Name>, edge: bool) -> Result<(), NoMemory>
+        ensures { OnOk result (self.new ≡ record self.old { variables = self.old.variables ++ record { name = option_copied name.entry; edge = edge } ∷ [] }) }
+    {
+        let name = name_of(alloc, name)?;
+        self.variables.push(Declared { name, edge })
+    }
+
     // A vertex pattern brings a variable.
     fn add_vertex(
         &mut self,
         alloc: Global,
-        name: Option<Name>,
+        name: Option<&Name>,
         pattern: &VertexPat,
     ) -> Result<Option<usize>, NoMemory>
-        ensures { IfOk result (Gives (spec.with_vertex self.old name pattern.now, Some (length self.old.variables)) self.new) }
+        ensures { IfOk result (Gives (spec.with_vertex self.old (option_copied name.entry) pattern.now, Some (length self.old.variables)) self.new) }
     {
         let number = self.variables.len();
         if VERTEX_VARIABLES as usize <= self.vertices.len() {
             self.add_fault(TypeFault::TooManyVariables(pattern.at))?;
         }
         self.add_labels(alloc, number, &pattern.labels)?;
-        self.variables.push(Declared { name, edge: false })?;
+        self.declare(alloc, name, false)?;
         self.vertices.push((number, pattern.at))?;
         Ok(Some(number))
     }
@@ -145,17 +153,17 @@ impl Scope {
     fn add_edge(
         &mut self,
         alloc: Global,
-        name: Option<Name>,
+        name: Option<&Name>,
         pattern: &EdgePat,
     ) -> Result<Option<usize>, NoMemory>
-        ensures { IfOk result (Gives (spec.with_edge self.old name pattern.now, Some (length self.old.variables)) self.new) }
+        ensures { IfOk result (Gives (spec.with_edge self.old (option_copied name.entry) pattern.now, Some (length self.old.variables)) self.new) }
     {
         let number = self.variables.len();
         if EDGE_VARIABLES as usize <= number.saturating_sub(self.vertices.len()) {
             self.add_fault(TypeFault::TooManyVariables(pattern.at))?;
         }
         self.add_labels(alloc, number, &pattern.labels)?;
-        self.variables.push(Declared { name, edge: true })?;
+        self.declare(alloc, name, true)?;
         Ok(Some(number))
     }
 
@@ -167,11 +175,8 @@ impl Scope {
     ) -> Result<Option<usize>, NoMemory>
         ensures { IfOk result (Gives (spec.vertex_by self.old pattern.now (Some placed.now)) self.new) }
     {
-        match variable_of(self.variables.as_slice(), &placed.name) {
-            None => {
-                let name = copied(alloc, &placed.name)?;
-                self.add_vertex(alloc, Some(name), pattern)
-            }
+        match self.variables.variable_of(&placed.name) {
+            None => self.add_vertex(alloc, Some(&placed.name), pattern),
             Some((number, false)) => {
                 self.add_labels(alloc, number, &pattern.labels)?;
                 Ok(Some(number))
@@ -191,11 +196,8 @@ impl Scope {
     ) -> Result<Option<usize>, NoMemory>
         ensures { IfOk result (Gives (spec.edge_by self.old pattern.now (Some placed.now)) self.new) }
     {
-        match variable_of(self.variables.as_slice(), &placed.name) {
-            None => {
-                let name = copied(alloc, &placed.name)?;
-                self.add_edge(alloc, Some(name), pattern)
-            }
+        match self.variables.variable_of(&placed.name) {
+            None => self.add_edge(alloc, Some(&placed.name), pattern),
             Some((_, false)) => {
                 self.add_fault(TypeFault::VariableKind(placed.at))?;
                 Ok(None)

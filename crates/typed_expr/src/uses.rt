@@ -1,47 +1,17 @@
-//! What expressions use: variables, and the texts of literals.
-ghost use Rattle.std.specs.Prelude.{◌≡◌, ◌≤◌, ◌<◌, ◌+◌, ◌-◌, ◌^◌, OnOk, IfOk, [], fold, length};
+//! What expressions use of variables.
+ghost use Rattle.std.specs.Prelude.{◌≡◌, OnOk, IfOk, [], fold};
 ghost use Rattle.std.specs.List.{cons_option, list_any};
-ghost use Rattle.value_text.specs.Texts.{Kept, with_text};
 ghost use Rattle.typed_expr.specs.Names as names;
 ghost use Rattle.typed_expr.specs.Uses as spec;
 
+use crate::declarations::Declarations;
 use crate::kinds::property_in;
 use crate::query::{Capture, What};
-use crate::scope::{Declared, short, variable_of};
+use crate::scope::short;
 use adfs_base::{Name, NoMemory};
 use graph_tables::Schema;
 use pgql_tree::AstExpr;
 use sqlite_items::Items;
-use value_text::Texts;
-
-/// Adds the texts of an expression's text literals.
-pub fn add_literals(expr: &AstExpr, texts: &mut Texts) -> Result<(), NoMemory>
-    requires { length texts.old + length (spec.literals expr.now) < 2 ^ 32 - 1 }
-    ensures ok { OnOk result (texts.new ≡ fold with_text texts.old (spec.literals expr.now)) }
-    ensures kept { Kept texts.old texts.new }
-    ensures room { length texts.new ≤ length texts.old + length (spec.literals expr.now) }
-{
-    match expr {
-        AstExpr::Text { content, .. } => {
-            texts.add(content.as_slice())?;
-            Ok(())
-        }
-        AstExpr::Not { inside, .. } => add_literals(inside.get(), texts),
-        AstExpr::Neg { inside, .. } => add_literals(inside.get(), texts),
-        AstExpr::IsNull { inside, .. } => add_literals(inside.get(), texts),
-        AstExpr::Binary { left, right, .. } => {
-            add_literals(left.get(), texts)?;
-            add_literals(right.get(), texts)
-        }
-        AstExpr::Int { .. } => Ok(()),
-        AstExpr::Date { .. } => Ok(()),
-        AstExpr::Bool { .. } => Ok(()),
-        AstExpr::Name { .. } => Ok(()),
-        AstExpr::Property { .. } => Ok(()),
-        AstExpr::Id { .. } => Ok(()),
-        AstExpr::Label { .. } => Ok(()),
-    }
-}
 
 fn same_what(a: What, b: What) -> bool
     ensures { result ≡ spec.same_what a b }
@@ -65,11 +35,11 @@ pub fn same_use(a: &Capture, b: &Capture) -> bool
 pub fn use_of(
     what: What,
     variable: &Name,
-    variables: &[Declared],
+    variables: &Declarations,
 ) -> Result<Option<Capture>, NoMemory>
     ensures { IfOk result (λ used. used ≡ spec.use_of what (names.variable_of variables.now variable.now)) }
 {
-    match variable_of(variables, variable) {
+    match variables.variable_of(variable) {
         None => Ok(None),
         Some((number, _)) => {
             let variable = short(number)?;
@@ -82,12 +52,12 @@ pub fn use_of(
 pub fn property_use(
     variable: &Name,
     property: &Name,
-    variables: &[Declared],
+    variables: &Declarations,
     schema: &Schema,
 ) -> Result<Option<Capture>, NoMemory>
     ensures { IfOk result (λ used. used ≡ spec.property_use schema.now property.now (names.variable_of variables.now variable.now)) }
 {
-    match variable_of(variables, variable) {
+    match variables.variable_of(variable) {
         None => Ok(None),
         Some((number, edge)) => match property_in(schema, edge, property) {
             None => Ok(None),
@@ -128,7 +98,7 @@ fn add_use(found: &mut Items<Capture>, used: Option<Capture>) -> Result<(), NoMe
 /// Adds the uses of variables in an expression, each once.
 pub fn add_uses(
     expr: &AstExpr,
-    variables: &[Declared],
+    variables: &Declarations,
     schema: &Schema,
     found: &mut Items<Capture>,
 ) -> Result<(), NoMemory>

@@ -1,26 +1,17 @@
-use Rattle.std.proofs.Common.{◌∙◌, sym}
-use Rattle.typed_expr.proofs.Outcomes.{typed-fault, typed-query}
-use Rattle.typed_expr.proofs.Queries.{constants_valid, no_faults, well_formed}
+use Rattle.typed_expr.specs.Typed.{Gives, typed}
+use Rattle.typed_expr.proofs.Outcomes.{typed-in}
+use Rattle.typed_expr.proofs.Queries.{given-valid, given-well_formed}
 use Rattle.typed_expr.proofs.typing.type_query.Goals as goal
 
-pub returns-in-Some-clause-exact : goal.returns-in-Some-clause-exact
-returns-in-Some-clause-exact c =
-    typed-fault c.args.schema.now c.args.texts.now c.args.ast.now c.in_ok-scope.scope c.in_ok-faults.faults c.first_of.result c.in-Some.fault
-    (rw c.as_slice.ensures at c.in_ok-scope.ensures) c.in_ok-faults.ensures (rw c.as_slice-2.ensures at c.first_of.ensures) c.in-Some.is
+exact : (c : goal.After-drop-scope-11) → Gives c.args.texts.now c.typed_in.new.texts c.typed_in.result (typed c.args.schema.now c.args.texts.now c.args.ast.now)
+exact c =
+    typed-in c.args.schema.now c.args.texts.now c.typed_in.new.texts c.args.ast.now c.in_ok-scope.scope c.typed_in.result (rw c.as_slice.ensures at c.in_ok-scope.ensures) c.typed_in.ensures
 
-pub returns-in_ok-query-in-None-clause-exact : goal.returns-in_ok-query-in-None-clause-exact
-returns-in_ok-query-in-None-clause-exact c =
-    typed-query c.args.schema.now c.args.texts.now c.add_all_literals.new.texts c.args.ast.now c.in_ok-scope.scope c.in_ok-faults.faults c.first_of.result c.in_ok-query-in-None.query
-    (rw c.as_slice.ensures at c.in_ok-scope.ensures) c.in_ok-faults.ensures (rw c.as_slice-2.ensures at c.first_of.ensures) c.in-None.is
-    c.in_ok-add_all_literals-in-None.ensures.ok c.in_ok-query-in-None.ensures
+pub returns-clause-exact : goal.returns-clause-exact
+returns-clause-exact c = exact c
 
-pub returns-in_ok-query-in-None-clause-well_formed : goal.returns-in_ok-query-in-None-clause-well_formed
-returns-in_ok-query-in-None-clause-well_formed c = λ some.
-    let none = no_faults c.in_ok-faults.faults (sym (rw c.as_slice-2.ensures at c.first_of.ensures) ∙ c.in-None.is) in
-    rw c.in_ok-query-in-None.ensures
-    (well_formed c.args.schema.now c.args.ast.now c.in_ok-scope.scope c.add_all_literals.new.texts some (rw c.as_slice.ensures at c.in_ok-scope.ensures) (sym c.in_ok-faults.ensures ∙ none))
+pub returns-clause-well_formed : goal.returns-clause-well_formed
+returns-clause-well_formed c = given-well_formed c.args.schema.now c.args.texts.now c.typed_in.new.texts c.args.ast.now c.typed_in.result (exact c)
 
-pub returns-in_ok-query-in-None-clause-valid : goal.returns-in_ok-query-in-None-clause-valid
-returns-in_ok-query-in-None-clause-valid c =
-    rw c.in_ok-query-in-None.ensures
-    (constants_valid c.args.schema.now c.args.ast.now c.in_ok-scope.scope c.add_all_literals.new.texts c.args.texts.now c.in_ok-add_all_literals-in-None.ensures.ok)
+pub returns-clause-valid : goal.returns-clause-valid
+returns-clause-valid c = given-valid c.args.schema.now c.args.texts.now c.typed_in.new.texts c.args.ast.now c.typed_in.result (exact c)

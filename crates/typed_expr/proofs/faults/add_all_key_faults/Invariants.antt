@@ -1,0 +1,7 @@
+use Rattle.std.proofs.Common.{◌≡◌, ◌++◌, drop}
+use Rattle.std.specs.Prelude.{flat_map}
+use Rattle.typed_expr.specs.Typed as spec
+use Rattle.typed_expr.proofs.faults.add_all_key_faults.Given as goal
+
+abbrev pub invariant-loop-key : goal.invariant-loop-key
+invariant-loop-key l = l.faults ++ flat_map (spec.key_faults l.schema l.variables l.ast.distinct l.ast.items) (drop l.key-index l.key-items) ≡ l.initial.faults ++ flat_map (spec.key_faults l.schema l.variables l.ast.distinct l.ast.items) l.ast.keys

@@ -1,5 +1,0 @@
-use Rattle.std.proofs.Common.{refl}
-use Rattle.typed_expr.proofs.laws.null_passes_nothing.Goals as goal
-
-pub returns : goal.returns
-returns c = record { stays = refl; fails = refl; turned_fails = refl }

@@ -1,0 +1,267 @@
+//! The query that a tree without faults means.
+ghost use Rattle.std.specs.Prelude.{◌≡◌, ◌++◌, ◌∷◌, [], IfOk, OnOk};
+ghost use Rattle.typed_expr.specs.Meaning as meaning;
+ghost use Rattle.typed_expr.specs.Typed as spec;
+
+use crate::captures::add_captures;
+use crate::expr::Expr;
+use crate::items::item_of;
+use crate::meaning::{Scene, add_conjuncts, meant};
+use crate::printed::printed;
+use crate::query::{EdgeJoin, Query, Variable};
+use crate::scope::{Declared, Scope, copied, copies, name_of};
+use adfs_base::{Name, NoMemory};
+use graph_tables::Schema;
+use pgql_tree::{Ast, AstExpr, Item, Key};
+use sqlite_items::Items;
+use std::alloc::Global;
+use value_text::Texts;
+
+fn add_label_list(
+    alloc: Global,
+    list: &Items<Name>,
+    lists: &mut Items<Items<Name>>,
+) -> Result<(), NoMemory>
+    ensures { OnOk result (lists.new ≡ lists.old ++ list.now ∷ []) }
+{
+    let copy = copies(alloc, list.as_slice())?;
+    lists.push(copy)?;
+    Ok(())
+}
+
+// The label lists of a variable.
+fn labels_of(
+    alloc: Global,
+    number: usize,
+    labels: &[(usize, Items<Name>)],
+    lists: &mut Items<Items<Name>>,
+) -> Result<(), NoMemory>
+    ensures { OnOk result (lists.new ≡ lists.old ++ spec.labels_of number labels.now) }
+{
+    for (of, list) in labels {
+        if *of == number {
+            add_label_list(alloc, list, lists)?;
+        }
+    }
+    Ok(())
+}
+
+// A variable without its label lists.
+fn unlabelled(alloc: Global, declared: &Declared) -> Result<Variable, NoMemory>
+    ensures { IfOk result (λ variable. variable ≡ record { name = declared.now.name; edge = declared.now.edge; labels = [] }) }
+{
+    let name = name_of(alloc, declared.name.as_ref())?;
+    Ok(Variable {
+        name,
+        edge: declared.edge,
+        labels: Items::new(alloc),
+    })
+}
+
+fn add_variable(
+    alloc: Global,
+    number: usize,
+    declared: &Declared,
+    labels: &[(usize, Items<Name>)],
+    variables: &mut Items<Variable>,
+) -> Result<(), NoMemory>
+    ensures { OnOk result (variables.new ≡ variables.old ++ record { name = declared.now.name; edge = declared.now.edge; labels = spec.labels_of number labels.now } ∷ []) }
+{
+    let mut variable = unlabelled(alloc, declared)?;
+    labels_of(alloc, number, labels, &mut variable.labels)?;
+    variables.push(variable)?;
+    Ok(())
+}
+
+fn add_variables(
+    alloc: Global,
+    scope: &Scope,
+    variables: &mut Items<Variable>,
+) -> Result<(), NoMemory>
+    ensures { OnOk result (variables.new ≡ variables.old ++ spec.variables_from 0 scope.now.labels scope.now.variables) }
+{
+    let mut number: usize = 0;
+    let mut rest = scope.variables.as_slice();
+    while let [declared, more @ ..] = rest {
+        add_variable(alloc, number, declared, scope.labels.as_slice(), variables)?;
+        number += 1;
+        rest = more;
+    }
+    Ok(())
+}
+
+fn column_of(alloc: Global, item: &Item) -> Result<Name, NoMemory>
+    ensures { IfOk result (λ name. name ≡ spec.column_of item.now) }
+{
+    match &item.name {
+        Some(placed) => copied(alloc, &placed.name),
+        None => printed(alloc, &item.expr),
+    }
+}
+
+fn add_condition(
+    condition: &Option<AstExpr>,
+    scene: Scene<'_>,
+    parts: &mut Items<Expr>,
+) -> Result<(), NoMemory>
+    ensures { OnOk result (parts.new ≡ parts.old ++ spec.conjuncts_of (meaning.meant scene.entry.schema.now scene.entry.variables.now scene.entry.captures.now scene.entry.texts.now) condition.now) }
+{
+    if let Some(condition) = condition {
+        let condition = meant(condition, scene)?;
+        add_conjuncts(condition, parts)?;
+    }
+    Ok(())
+}
+
+fn add_column(
+    item: &Item,
+    scene: Scene<'_>,
+    select: &mut Items<(Expr, Name)>,
+) -> Result<(), NoMemory>
+    ensures { OnOk result (select.new ≡ select.old ++ (meaning.meant scene.entry.schema.now scene.entry.variables.now scene.entry.captures.now scene.entry.texts.now item.now.expr, spec.column_of item.now) ∷ []) }
+{
+    let name = column_of(scene.alloc, item)?;
+    let expr = meant(&item.expr, scene)?;
+    select.push((expr, name))?;
+    Ok(())
+}
+
+fn add_columns(
+    items: &[Item],
+    scene: Scene<'_>,
+    select: &mut Items<(Expr, Name)>,
+) -> Result<(), NoMemory>
+    ensures { OnOk result (select.new ≡ select.old ++ spec.select_of (meaning.meant scene.entry.schema.now scene.entry.variables.now scene.entry.captures.now scene.entry.texts.now) items.now) }
+{
+    for item in items {
+        add_column(item, scene, select)?;
+    }
+    Ok(())
+}
+
+// The expression that an order key stands for.
+fn key_expr(items: &[Item], expr: &AstExpr, scene: Scene<'_>) -> Result<Expr, NoMemory>
+    ensures { IfOk result (λ found. found ≡ meaning.meant scene.entry.schema.now scene.entry.variables.now scene.entry.captures.now scene.entry.texts.now (spec.key_expr items.now expr.now)) }
+{
+    match item_of(items, expr) {
+        Some(item) => meant(&item.expr, scene),
+        None => meant(expr, scene),
+    }
+}
+
+fn add_key(
+    items: &[Item],
+    key: &Key,
+    scene: Scene<'_>,
+    keys: &mut Items<(Expr, bool)>,
+) -> Result<(), NoMemory>
+    ensures { OnOk result (keys.new ≡ keys.old ++ (meaning.meant scene.entry.schema.now scene.entry.variables.now scene.entry.captures.now scene.entry.texts.now (spec.key_expr items.now key.now.expr), key.now.down) ∷ []) }
+{
+    let expr = key_expr(items, &key.expr, scene)?;
+    keys.push((expr, key.down))?;
+    Ok(())
+}
+
+fn add_keys(
+    items: &[Item],
+    keys: &[Key],
+    scene: Scene<'_>,
+    found: &mut Items<(Expr, bool)>,
+) -> Result<(), NoMemory>
+    ensures { OnOk result (found.new ≡ found.old ++ spec.keys_of (meaning.meant scene.entry.schema.now scene.entry.variables.now scene.entry.captures.now scene.entry.texts.now) items.now keys.now) }
+{
+    for key in keys {
+        add_key(items, key, scene, found)?;
+    }
+    Ok(())
+}
+
+// A query of which nothing is known but DISTINCT and LIMIT.
+fn bare_query(alloc: Global, ast: &Ast) -> Query
+    ensures { result ≡ record { variables = []; edges = []; captures = []; conjuncts = []; select = []; keys = []; distinct = ast.now.distinct; limit = ast.now.limit } }
+{
+    Query {
+        variables: Items::new(alloc),
+        edges: Items::new(alloc),
+        captures: Items::new(alloc),
+        conjuncts: Items::new(alloc),
+        select: Items::new(alloc),
+        keys: Items::new(alloc),
+        distinct: ast.distinct,
+        limit: ast.limit,
+    }
+}
+
+fn add_edges(edges: &[EdgeJoin], found: &mut Items<EdgeJoin>) -> Result<(), NoMemory>
+    ensures { OnOk result (found.new ≡ found.old ++ edges.now) }
+{
+    for edge in edges {
+        found.push(*edge)?;
+    }
+    Ok(())
+}
+
+// What the expressions of the tree mean.
+fn add_expressions(
+    ast: &Ast,
+    scene: Scene<'_>,
+    conjuncts: &mut Items<Expr>,
+    select: &mut Items<(Expr, Name)>,
+    keys: &mut Items<(Expr, bool)>,
+) -> Result<(), NoMemory>
+    ensures { let means = meaning.meant scene.entry.schema.now scene.entry.variables.now scene.entry.captures.now scene.entry.texts.now in
+        OnOk result ((conjuncts.new ≡ conjuncts.old ++ spec.conjuncts_of means ast.now.condition)
+        × (select.new ≡ select.old ++ spec.select_of means ast.now.items)
+        × (keys.new ≡ keys.old ++ spec.keys_of means ast.now.items ast.now.keys)) }
+{
+    let items = ast.items.as_slice();
+    add_condition(&ast.condition, scene, conjuncts)?;
+    add_columns(items, scene, select)?;
+    add_keys(items, ast.keys.as_slice(), scene, keys)
+}
+
+// Fills a bare query.
+fn fill(
+    alloc: Global,
+    ast: &Ast,
+    scope: &Scope,
+    schema: &Schema,
+    texts: &Texts,
+    query: &mut Query,
+) -> Result<(), NoMemory>
+    requires { query.old ≡ record { variables = []; edges = []; captures = []; conjuncts = []; select = []; keys = []; distinct = ast.now.distinct; limit = ast.now.limit } }
+    ensures { OnOk result (query.new ≡ spec.query_of schema.now ast.now scope.now texts.now) }
+{
+    add_captures(ast, &scope.variables, schema, &mut query.captures)?;
+    let scene = Scene {
+        alloc,
+        variables: &scope.variables,
+        schema,
+        captures: query.captures.as_slice(),
+        texts,
+    };
+    add_expressions(
+        ast,
+        scene,
+        &mut query.conjuncts,
+        &mut query.select,
+        &mut query.keys,
+    )?;
+    add_variables(alloc, scope, &mut query.variables)?;
+    add_edges(scope.edges.as_slice(), &mut query.edges)
+}
+
+/// The query that a tree without faults means, over texts that have those of its literals.
+pub fn query_of(
+    alloc: Global,
+    ast: &Ast,
+    scope: &Scope,
+    schema: &Schema,
+    texts: &Texts,
+) -> Result<Query, NoMemory>
+    ensures { IfOk result (λ query. query ≡ spec.query_of schema.now ast.now scope.now texts.now) }
+{
+    let mut query = bare_query(alloc, ast);
+    fill(alloc, ast, scope, schema, texts, &mut query)?;
+    Ok(query)
+}

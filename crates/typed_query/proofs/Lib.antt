@@ -1,0 +1,5 @@
+pub mod ExprByParts
+pub mod Folds
+pub mod Parts
+mod SameTexts
+pub mod Validity
