@@ -4,12 +4,15 @@ mod AstFolds
 mod Cases
 mod Conjuncts
 mod Days
+pub use Rattle.typed_query.proofs.ExprByParts
 mod Flags
+pub use Rattle.typed_query.proofs.Folds
 mod Groups
 mod Lists
 mod Meanings
 mod Named
 mod Outcomes
+pub use Rattle.typed_query.proofs.Parts
 mod Queries
 mod SameLaw
 mod Sames
