@@ -7,7 +7,7 @@ use Rattle.pgql_lexer.specs.Tokens.{IsFirst, Lexed, tokens}
 use Rattle.pgql_lexer.proofs.Steps.{take-drop_rest}
 use Rattle.pgql_lexemes.specs.Lexemes.{Lexeme}
 use Rattle.pgql_lexemes.specs.Parsers.{first}
-use Rattle.pgql_lexemes.specs.Seen.{seen, seen_as, part, lexemes, tokens_or_none, onto, IsTokenOf}
+use Rattle.pgql_lexemes.specs.Seen.{seen, seen_as, lexemes, tokens_or_none, onto, IsTokenOf}
 use Rattle.pgql_lexemes.proofs.Sound.{StandsIn, all_stand, all_sound}
 
 pub first_onto : (t : Option Lexeme) (ts : List Lexeme) → t ≡ first (onto t ts)

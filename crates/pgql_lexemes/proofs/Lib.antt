@@ -3,3 +3,4 @@ pub mod SameKind
 pub mod Taking
 pub mod Values
 pub mod Sound
+pub mod Runs

@@ -5,7 +5,7 @@ use Rattle.pgql_lexemes.specs.Parsers.{Outcome, first, take_token}
 use Rattle.pgql_lexemes.specs.Reads.{Reads}
 use Rattle.pgql_lexemes.specs.declared.input.Stop.{Stop}
 use Rattle.pgql_lexemes.specs.declared.lexeme.Lexeme as code
-use Rattle.pgql_lexemes.specs.Told.{told, told_of, ReadsToken}
+use Rattle.pgql_lexemes.specs.Told.{told, ReadsToken}
 
 abbrev taken_or : Lexeme → Outcome Lexeme → Lexeme
 taken_or t (Ok p) = p.0

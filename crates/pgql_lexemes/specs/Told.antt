@@ -1,5 +1,5 @@
 -- What a token of the code is to the grammar.
-use Rattle.std.specs.Prelude.{ℕ, List, Result, Ok, Err}
+use Rattle.std.specs.Prelude.{List, Result, Ok, Err}
 use Rattle.pgql_lexemes.specs.Lexemes.{Lexeme}
 use Rattle.pgql_lexemes.specs.Parsers.{Outcome}
 use Rattle.pgql_lexemes.specs.Reads.{Reads}

@@ -1,9 +1,10 @@
 //! The values of literals.
 
-ghost use Rattle.std.specs.Prelude.{◌≡◌, ◌<◌, ◌^◌, ◌≤◌, ◌++◌, ◌∷◌, length, IfOk, false};
+ghost use Rattle.std.specs.Prelude.{◌≡◌, ◌<◌, ◌^◌, ◌++◌, ◌∷◌, length, slice_index, IfOk, false};
 ghost use Rattle.pgql_lexer.specs.Fronts.{value_after};
 ghost use Rattle.pgql_lexemes.specs.Lexemes.{undoubled};
 
+use memchr::memchr;
 use sqlite_items::Items;
 use std::alloc::{AllocError, Global};
 
@@ -21,14 +22,16 @@ pub fn value_of_digits(digits: &[u8]) -> u64
     value
 }
 
-/// What stands after a byte of a literal's content: a doubled quote stands for one.
-fn past_double(byte: u8, rest: &[u8]) -> &[u8]
-    ensures content { undoubled false (byte ∷ rest.now) ≡ byte ∷ undoubled false result.now }
-    ensures shorter { length result.now ≤ length rest.now }
+/// What stands behind the quote at the front, and behind the one that doubles it.
+fn past_quote(quoted: &[u8]) -> &[u8]
+    requires { slice_index quoted.now 0 ≡ 39 }
+    ensures content { undoubled false quoted.now ≡ 39 ∷ undoubled false result.now }
+    ensures shorter { length result.now < length quoted.now }
 {
-    match rest {
-        [b'\'', more @ ..] if byte == b'\'' => more,
-        _ => rest,
+    match quoted {
+        [_, b'\'', more @ ..] => more,
+        [_, more @ ..] => more,
+        [] => unreachable!(),
     }
 }
 
@@ -36,11 +39,13 @@ fn past_double(byte: u8, rest: &[u8]) -> &[u8]
 pub fn undoubled(alloc: Global, content: &[u8]) -> Result<Items<u8>, AllocError>
     ensures { IfOk result (λ found. found ≡ undoubled false content.now) }
 {
-    let mut found = Items::new(alloc);
+    let mut found = Vec::new(alloc);
     let mut rest = content;
-    while let [byte, more @ ..] = rest {
-        found.push(*byte)?;
-        rest = past_double(*byte, more);
+    while let Some(plain) = memchr(b'\'', rest) {
+        found.extend_from_slice(&rest[..plain])?;
+        found.push(b'\'')?;
+        rest = past_quote(&rest[plain..]);
     }
-    Ok(found)
+    found.extend_from_slice(rest)?;
+    Ok(Items::from_vec(found))
 }

@@ -3,3 +3,4 @@ mod Digits
 mod Parts
 pub mod Steps
 mod Scanning
+mod Ends

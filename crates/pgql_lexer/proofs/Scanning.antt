@@ -1,5 +1,5 @@
 -- Passing over what stands at the front of a text, and the first token.
-use Rattle.std.proofs.Common.{◌≡◌, ◌≤◌, ◌<◌, ℕ, ◌+◌, ◌-◌, List, [], ◌∷◌, ◌++◌, take, drop, length, length-drop, append_assoc, Option, Some, None, Ok, Err, IsOk, refl, sym, ap, ◌∙◌, subst, arith}
+use Rattle.std.proofs.Common.{◌≡◌, ◌≤◌, ◌<◌, ℕ, ◌+◌, ◌-◌, List, [], ◌∷◌, ◌++◌, take, drop, length, append_assoc, Some, Ok, Err, IsOk, refl, sym, ap, ◌∙◌, arith}
 use Rattle.std.proofs.lemmas.List.{drop-drop}
 use Rattle.pgql_lexer.specs.declared.token.Token.{Token}
 use Rattle.pgql_lexer.specs.declared.token.TokenKind.{TokenKind}
@@ -7,7 +7,7 @@ use Rattle.pgql_lexer.specs.declared.token.LexFault.{LexFault}
 use Rattle.pgql_lexer.specs.declared.fronts.Front.{Front}
 use Rattle.pgql_lexer.specs.declared.fronts.Front.TheVariants as front
 use Rattle.pgql_lexer.specs.Fronts.{Bytes, front_of}
-use Rattle.pgql_lexer.specs.Tokens.{Lexed, IsFirst, HasTokens, lexed_after, tokens, tokens_from, with_front}
+use Rattle.pgql_lexer.specs.Tokens.{Lexed, IsFirst, lexed_after, tokens, tokens_from, with_front}
 use Rattle.pgql_lexer.proofs.Steps.{tokens_from-drop, tokens_from-front, drop-one, take-drop_rest}
 
 with_front_both : (a b : List Token) (o : Lexed) → with_front a (with_front b o) ≡ with_front (a ++ b) o

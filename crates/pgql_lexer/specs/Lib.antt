@@ -1,4 +1,5 @@
 pub mod Fronts
+pub mod Laws
 pub mod Parts
 pub mod Pieces
 pub mod Places

@@ -13,11 +13,13 @@
 #![tactic(auto)]
 
 mod fronts;
+mod laws;
 mod pieces;
 mod scan;
 mod token;
 mod tokens;
 
+pub use laws::{comments_end_at_the_first_close, literals_end_at_the_first_lone_quote};
 pub use pieces::cut;
 pub use scan::{check, first_token};
 pub use token::{LexFault, Token, TokenKind};

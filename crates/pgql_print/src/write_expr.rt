@@ -1,12 +1,13 @@
 //! How expressions are written.
 
-ghost use Rattle.std.specs.Prelude.{◌≡◌, ◌++◌, ◌∷◌, [], flat_map, codes, OnOk, IfOk};
+ghost use Rattle.std.specs.Prelude.{◌≡◌, ◌<◌, ◌++◌, ◌∷◌, [], drop, length, flat_map, codes, OnOk, IfOk};
 ghost use Rattle.std.specs.Fmt.{signed_decimal};
 ghost use Rattle.pgql_tree.specs.Levels.{tighter};
 ghost use Rattle.pgql_print.specs.Printing as spec;
 
 use adfs_base::Name;
 use itoa::Buffer;
+use memchr::memchr;
 use pgql_tree::{AstExpr, Level, Op};
 use std::alloc::AllocError;
 
@@ -121,17 +122,6 @@ fn put_number(out: &mut Vec<u8>, number: &i64) -> Result<(), AllocError>
     put(out, buffer.format(*number).as_bytes())
 }
 
-/// A byte of a literal's content, a quote doubled.
-fn put_doubled(out: &mut Vec<u8>, byte: u8) -> Result<(), AllocError>
-    ensures { OnOk result (out.new.items ≡ out.old.items ++ spec.doubled byte) }
-{
-    if byte == b'\'' {
-        put(out, b"''")
-    } else {
-        put(out, &[byte])
-    }
-}
-
 /// The content of a literal between quotes.
 fn put_quoted(out: &mut Vec<u8>, content: &[u8]) -> Result<(), AllocError>
     ensures { OnOk result (out.new.items ≡ out.old.items ++ spec.quoted content.now) }
@@ -142,15 +132,26 @@ fn put_quoted(out: &mut Vec<u8>, content: &[u8]) -> Result<(), AllocError>
     Ok(())
 }
 
+/// What stands behind the first byte.
+fn behind_first(bytes: &[u8]) -> &[u8]
+    requires { 0 < length bytes.now }
+    ensures rest { result.now ≡ drop 1 bytes.now }
+    ensures shorter { length result.now < length bytes.now }
+{
+    &bytes[1..]
+}
+
+/// The content of a literal, each quote doubled.
 fn put_content(out: &mut Vec<u8>, content: &[u8]) -> Result<(), AllocError>
     ensures { OnOk result (out.new.items ≡ out.old.items ++ flat_map spec.doubled content.now) }
 {
     let mut rest = content;
-    while let [byte, more @ ..] = rest {
-        put_doubled(out, *byte)?;
-        rest = more;
+    while let Some(plain) = memchr(b'\'', rest) {
+        put(out, &rest[..plain])?;
+        put(out, b"''")?;
+        rest = behind_first(&rest[plain..]);
     }
-    Ok(())
+    put(out, rest)
 }
 
 fn put_date(out: &mut Vec<u8>, content: &[u8]) -> Result<(), AllocError>

@@ -1,4 +1,4 @@
-use Rattle.std.proofs.Common.{◌+◌, [], length, refl, rules, arith}
+use Rattle.std.proofs.Common.{◌+◌, [], length, refl, rules}
 use Rattle.std.proofs.lemmas.Result.{err_from_is_err_and}
 use Rattle.pgql_lexer.specs.Tokens.{tokens}
 use Rattle.pgql_lexer.proofs.Scanning.{all_passed, stops}
