@@ -1,0 +1,5 @@
+pub mod May
+pub mod Owed
+pub mod Sound
+pub mod Step
+pub mod World
