@@ -2,4 +2,5 @@ pub mod May
 pub mod Owed
 pub mod Sound
 pub mod Step
+pub mod Stepped
 pub mod World

@@ -3,9 +3,10 @@ use Rattle.std.specs.Prelude.{◌≡◌, ℕ, ◌+◌, ◌*◌, ◌<◌, ◌≤�
 use Rattle.adfs_base.specs.Shape.{Extents, limit_of, pool_of}
 use Rattle.match_context.specs.Bags.{total}
 use Rattle.match_context.specs.declared.message.Message.{Message}
+use Rattle.fabric.specs.Calls.{IsMessageOf}
 use Rattle.fabric.specs.Shared.{Shared, IsShared, IsUnit, IsWorkerOf, machine_of, used_at, flying_at, roots_at, cursor_at, enrolled_at, pool_at, inbox_at}
 use Rattle.dfs_worker.specs.Census.{Census, count, credits_of, flying_of, buffers_of, one, is_word, of_message}
-use Rattle.dfs_worker.specs.Sound.{IsMessage, IsWorker, WithinRoots}
+use Rattle.dfs_worker.specs.Sound.{IsWorker, WithinRoots}
 use Rattle.dfs_worker.specs.State.{State}
 use Rattle.world_core.specs.World.{World}
 
@@ -25,7 +26,7 @@ enrolled_of machine v = one (v.enrolled && (v.machine == machine))
 abbrev pub AreMessages : Shared → Type 0
 AreMessages s =
     (machine stage i : ℕ) (messages : List Message) (message : Message) → inbox_at s machine stage ≡ Some messages → slice_get messages i ≡ Some message →
-    IsMessage s.shape message × (message.to ≡ machine) × (message.stage ≡ stage)
+    IsMessageOf s.shape message × (message.to ≡ machine) × (message.stage ≡ stage)
 
 -- Each worker has its number, its machine and the shape of all.
 pub record IsPlaced (s : Shared) (i : ℕ) (v : State) : Type 0 where

@@ -1,5 +1,5 @@
 -- One event of one worker: its guards in their order, and its change.
-use Rattle.std.specs.Prelude.{◌≡◌, ℕ, Bool, true, false, not, ◌&&◌, ◌==◌, nat_lt, List, [], ◌∷◌, slice_get, slice_set, Option, Some, None, is_some}
+use Rattle.std.specs.Prelude.{◌≡◌, ℕ, Bool, true, false, not, ◌&&◌, ◌==◌, nat_lt, if◌then◌else◌, List, [], ◌∷◌, slice_get, slice_set, Option, Some, None, is_some}
 use Rattle.adfs_base.specs.declared.step_answers.Word.{Word}
 use Rattle.adfs_base.specs.declared.step_answers.Word.TheVariants.{Enrolled, Used}
 use Rattle.match_context.specs.declared.frame.Frame.{Frame}
@@ -7,7 +7,7 @@ use Rattle.match_context.specs.declared.frame.Rest.{Rest}
 use Rattle.match_context.specs.declared.frame.Rest.TheVariants as rest
 use Rattle.match_context.specs.declared.message.Message.{Message}
 use Rattle.match_context.specs.Tree.{Tree}
-use Rattle.stage_termination.specs.Marks.{Marks, is_word, is_marked, is_ready, moved_to}
+use Rattle.stage_termination.specs.Marks.{Marks, is_marked, is_ready}
 use Rattle.fabric.specs.Calls.{can_claim, chunk_end, after_claim, after_retire, can_charge, after_charge, after_discharge, can_fetch, empty_buffer, after_fetch, after_restore, after_post, can_pick, after_pick, can_push, after_push, pop_answer, after_pop, after_close}
 use Rattle.fabric.specs.Shared.{Shared, cursor_at, word_at}
 use Rattle.dfs_worker.specs.declared.event.Event.{Event}
@@ -60,9 +60,24 @@ abbrev pub can_charge_for : Shared → ℕ → Option (ℕ × ℕ) → Bool
 can_charge_for s machine None = false
 can_charge_for s machine (Some child) = can_charge s machine child.0 child.1
 
--- whether a word of the stage that closes next exists, is 0, and isn't among the marks, which are of that stage
-abbrev pub can_mark : Shared → Marks → Word → Bool
-can_mark s marks word = is_word marks word && ((word_at s word == 0) && not (is_marked marks word))
+-- The words of stage 0 are (a, 0) for each machine a, those of a later stage (a, b) for each pair of machines.
+abbrev pub is_event_word : Shared → ℕ → ℕ → Bool
+is_event_word s a b =
+    nat_lt s.closed s.shape.stages
+    && (nat_lt a s.shape.machines && (if s.closed == 0 then b == 0 else nat_lt b s.shape.machines))
+
+-- whether the marks, where they are of the stage that closes next, have this word, or all
+abbrev pub has_mark : Marks → ℕ → Word → Bool
+has_mark marks closed word = (marks.stage == closed) && is_marked marks word
+
+abbrev pub has_all_marks : Marks → ℕ → Bool
+has_all_marks marks closed = (marks.stage == closed) && is_ready marks
+
+-- whether that word exists, is 0, and isn't marked
+abbrev pub can_mark : Shared → Marks → ℕ → ℕ → Bool
+can_mark s marks a b =
+    is_event_word s a b
+    && ((word_at s (event_word s.closed a b) == 0) && not (has_mark marks s.closed (event_word s.closed a b)))
 
 abbrev pub shared_guard : Event → State → Shared → Option Guard
 shared_guard (Claim w) v s = must (can_claim s v.machine) guard.Roots None
@@ -78,8 +93,8 @@ shared_guard (Pop w stage) v s = must (is_some (pop_answer s v.machine stage)) g
 shared_guard (Pick w) v s = must (popped_test (λ message. can_pick s message.from message.stage message.to) v.hand) guard.Flying None
 shared_guard (Restore w) v s = None
 shared_guard (Discharge w) v s = None
-shared_guard (Mark w a b) v s = must (can_mark s (moved_to v.marks s.closed) (event_word s.closed a b)) guard.Word None
-shared_guard (Close w) v s = must (is_ready (moved_to v.marks s.closed)) guard.Marks None
+shared_guard (Mark w a b) v s = must (can_mark s v.marks a b) guard.Word None
+shared_guard (Close w) v s = must (has_all_marks v.marks s.closed) guard.Marks None
 
 -- the first of the one, then of the other
 abbrev pub then_guard : Option Guard → Option Guard → Option Guard
@@ -174,7 +189,7 @@ happens_at tree world event None = world
 happens_at tree world event (Some v) =
     record {
       workers = slice_set world.workers (worker_of event) (own_part tree event world.shared v);
-      shared = shared_part event v world.shared
+      shared = shared_part event v world.shared;
     }
 
 -- the world after the event

@@ -3,5 +3,9 @@
 
 mod events;
 mod guards;
+mod stepped;
+mod world;
 
 pub use dfs_worker::{Event, Guard};
+pub use stepped::Stepped;
+pub use world::World;
