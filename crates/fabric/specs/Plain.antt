@@ -61,4 +61,5 @@ pub record PlainAgrees (s : Shared) (worker : ℕ) (x : Holding) : Type 0 where
       IsMessageOf s.shape message × (message.to ≡ machine) × (message.stage ≡ stage)
   pub cursors : (machine : ℕ) → cursor_at s machine ≤ roots_at s machine
   pub ended : x.ended ≡ true → cursor_at s (machine_of s worker) ≡ roots_at s (machine_of s worker)
-  pub closed : x.looked ≡ true → x.closed ≡ s.closed
+  pub closed : x.closed ≤ s.closed
+  pub looked : x.looked ≡ true → x.closed ≡ s.closed

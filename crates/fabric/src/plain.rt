@@ -270,6 +270,13 @@ impl PlainFabric {
 
 // What is there.
 impl PlainFabric {
+    /// The numbers of the run.
+    pub fn shape(&self) -> Shape
+        ensures { result ≡ self.now.shape }
+    {
+        self.shape
+    }
+
     /// The number of a word.
     pub fn word(&self, word: Word) -> u32
         requires { (stage : ℕ) × IsWordOf self.now stage word }

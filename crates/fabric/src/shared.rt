@@ -1,4 +1,4 @@
-ghost use Rattle.std.specs.Prelude.{◌≡◌, ℕ, MatchOption, MatchResult};
+ghost use Rattle.std.specs.Prelude.{◌≡◌, ◌≤◌, ℕ, MatchOption, MatchResult};
 ghost use Rattle.adfs_base.specs.Shape.{Extents};
 ghost use Rattle.fabric.specs.Account.{Holding, Call, ToClaim, ToRetire, ToCharge, ToFetch, ToPost, ToPush, ToPop, ToPick, ToRestore, ToDischarge, ToMark, ToClose, ToLook, Given, Nothing, Roots, Taken, Came, Seen, unlooked, at_end};
 ghost use Rattle.fabric.specs.Fabric.{MayCall, Ready, Missed, OnClaimed, OnCharge, OnPick, OnMarked, OnClosing};
@@ -27,13 +27,14 @@ pub trait Fabric {
     /// How many roots a machine has.
     ghost roots: { Self → ℕ → ℕ };
 
-    /// Takes the next chunk of roots of the worker's machine.
+    /// Takes the next chunk of roots of the worker's machine. Where another step came between, a retirement would
+    /// not be ready either.
     fn claim(&mut self, w: u32) -> Claimed
         requires { MayCall agrees shape self.old w ToClaim }
         ensures { OnClaimed result
             (λ first end. Ready agrees done shape roots self.old w ToClaim (Roots first end) self.new)
             (Missed agrees excused shape roots at_end self.old w ToClaim self.new)
-            (Missed agrees excused shape roots unlooked self.old w ToClaim self.new) };
+            (Missed agrees excused shape roots unlooked self.old w ToClaim self.new × excused self.old w ToRetire self.new) };
 
     /// The worker claims no more. It has seen that no root of its machine is left.
     fn retire(&mut self, w: u32)
@@ -106,8 +107,9 @@ pub trait Fabric {
             (Ready agrees done shape roots self.old w ToClose Nothing self.new)
             (Missed agrees excused shape roots unlooked self.old w ToClose self.new) };
 
-    /// How many stages are closed.
+    /// How many stages are closed. It is never fewer than the worker saw before.
     fn closed(&mut self, w: u32) -> u32
         requires { MayCall agrees shape self.old w ToLook }
-        ensures { Ready agrees done shape roots self.old w ToLook (Seen result) self.new };
+        ensures seen { Ready agrees done shape roots self.old w ToLook (Seen result) self.new }
+        ensures rises { (x : Holding) → agrees self.old w x → x.closed ≤ result };
 }

@@ -1,0 +1,10 @@
+pub mod Bodies
+pub mod Happens
+pub mod Inboxes
+pub mod Made
+pub mod Moves
+pub mod Moving
+pub mod Parts
+pub mod Steps
+pub mod Travels
+pub mod Words

@@ -1,0 +1,6 @@
+pub mod May
+pub mod Owed
+pub mod Sound
+pub mod Step
+pub mod Stepped
+pub mod World
