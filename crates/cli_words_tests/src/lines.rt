@@ -56,16 +56,18 @@ fn is_taken(alloc: Global, line: &str) -> Result<bool, Fail> {
 
 /// The numbers of the machines' side.
 fn first_numbers(alloc: Global, o: &Options) -> Result<String, Fail> {
-    Ok(
-        format!(in alloc; "{} {} {} {} {} {}", o.machines, o.workers, o.threads, o.credits, o.broad, o.buffer)?,
-    )
+    Ok(format!(in alloc;
+        "{} {} {} {} {} {}",
+        o.machines, o.workers, o.threads, o.credits, o.broad, o.buffer
+    )?)
 }
 
 /// The others.
 fn last_numbers(alloc: Global, o: &Options) -> Result<String, Fail> {
-    Ok(
-        format!(in alloc; "{} {} {} {} {}", o.lanes, o.pool, o.seed, o.vertices, o.edges)?,
-    )
+    Ok(format!(in alloc;
+        "{} {} {} {} {}",
+        o.lanes, o.pool, o.seed, o.vertices, o.edges
+    )?)
 }
 
 /// Whether the line has these numbers.
@@ -129,7 +131,10 @@ fn files_stand_in_the_order_of_their_words(rt: HostRuntime) -> Result<(), Fail> 
 
 #[test]
 fn no_words_are_refused_at_the_first(rt: HostRuntime) {
-    assert_eq!(rt; read_words(rt.alloc(), &[]).err(), Some(UsageFault::Word(0)));
+    assert_eq!(rt;
+        read_words(rt.alloc(), &[]).err(),
+        Some(UsageFault::Word(0))
+    );
 }
 
 #[test]

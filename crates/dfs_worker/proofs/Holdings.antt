@@ -16,7 +16,14 @@ use Rattle.dfs_worker.specs.Turn.{own_credits, works_of, homes_of, Holds, Fits}
 
 pub SameHolding-refl : (x : Holding) → SameHolding x x
 SameHolding-refl x = record {
-  enrolled = refl; opens = λ _ _. refl; works = λ _ _. refl; buffers = λ _. refl; ended = refl; closed = refl; marked = λ _. refl; looked = refl;
+  enrolled = refl;
+  opens = λ _ _. refl;
+  works = λ _ _. refl;
+  buffers = λ _. refl;
+  ended = refl;
+  closed = refl;
+  marked = λ _. refl;
+  looked = refl;
 }
 
 -- ---- the fabric may be asked

@@ -41,7 +41,6 @@ use Rattle.dfs_worker.proofs.Holdings.{may-call, holds-by, SameSelf, fits-after,
 use Rattle.dfs_worker.proofs.Keeps.{IsEmpty, descended-keeps, descended-is, appended-keeps, appended-is, charged-keeps, charged-is, fetched-keeps, posted-keeps, posted-is, freed-keeps, popped-keeps, picked-keeps, restored-keeps}
 use Rattle.dfs_worker.proofs.Places.{OpenAt, open-facts, slot-within, total-set_or}
 use Rattle.dfs_worker.proofs.Roots.{advanced-roots, descended-roots, appended-roots, charged-roots, fetched-roots, posted-roots, picked-roots, restored-roots}
-
 use Rattle.dfs_worker.proofs.Tries.{did-step, missed-step, barred-step, fits-alone, may-push, may-pick, may-discharge, may-charge, may-post}
 use Rattle.dfs_worker.proofs.Facts.{Ends}
 use Rattle.dfs_worker.proofs.Keeps.{fetched-is, picked-is, restored-is}
@@ -63,7 +62,7 @@ empty-given : {F : Type 0} (agrees : F → ℕ → Holding → Type 0) (shape : 
     Fits agrees shape roots tree v f → buffer ≡ empty_buffer (machine_in (shape f) v.number) (shape f).buffer → IsEmpty v buffer
 empty-given agrees shape roots tree v f buffer h e =
     let same : empty_buffer (machine_in (shape f) v.number) (shape f).buffer ≡ empty_buffer v.machine v.shape.buffer =
-        ap (λ s. empty_buffer (machine_in s v.number) s.buffer) h.same_shape ∙ ap (λ m. empty_buffer m v.shape.buffer) (sym h.number) in
+    ap (λ s. empty_buffer (machine_in s v.number) s.buffer) h.same_shape ∙ ap (λ m. empty_buffer m v.shape.buffer) (sym h.number) in
     let is = e ∙ same in
     record { home = ap (λ (b : Batch). b.home) is; size = ap (λ (b : Batch). b.size) is; none = ap (λ (b : Batch). b.items) is }
 
@@ -85,14 +84,14 @@ posted-fits agrees done shape roots tree v f f' stage to h own r =
     let machines = h.worker.slots.machines in
     let to_in : to < v.shape.machines = let n = there.to_in in omega arith in
     let place : (message.stage ≡ stage) × (message.to ≡ to) =
-        same_from_place message.stage message.to stage to v.shape.machines is.whole.to to_in (is.place ∙ ap (λ q. slot_of q stage to) machines) in
+    same_from_place message.stage message.to stage to v.shape.machines is.whole.to to_in (is.place ∙ ap (λ q. slot_of q stage to) machines) in
     let s = same-of v (posted stage to v) _ (posted-is v stage to message at.1.1) (record { self = record { number = refl; machine = refl; shape = refl }; enrolled = refl; marks = refl }) in
     let word : (i j : ℕ) → of_message (own_credits i j).opened message ≡ one (nat_eq i stage && nat_eq j to) = λ i j. rw (place.0, place.1) refl in
     fits-after agrees done shape roots tree v (posted stage to v) f f' (ToPost stage to) Nothing h r (may-post v h.holding stage to message h.worker h.holds at.1.1)
     (posted-keeps v stage to h.worker own) s.self (posted-roots (tree.roots v.machine) v stage to h.within)
     (holds-by v (posted stage to v) h.holding (holds_after (ToPost stage to) Nothing h.holding) (λ census. of_message census.opened message) (λ census. of_message census.posted message)
-      (λ census. posted-count census v stage to message h.worker at.1.0 at.1.1) (h.holds.enrolled ∙ sym s.enrolled) s.marks refl (λ _. refl)
-      (λ i j. let g = word i j in omega arith) (λ i j. omega arith) (λ i. omega arith) h.holds)
+    (λ census. posted-count census v stage to message h.worker at.1.0 at.1.1) (h.holds.enrolled ∙ sym s.enrolled) s.marks refl (λ _. refl)
+    (λ i j. let g = word i j in omega arith) (λ i j. omega arith) (λ i. omega arith) h.holds)
 
 -- ---- without a call
 pub descend-tried : {F : Type 0} (agrees : F → ℕ → Holding → Type 0) (done : F → ℕ → Call → Given → F → Type 0) (excused : F → ℕ → Call → F → Type 0) (shape : F → Extents) (roots : F → ℕ → ℕ) (tree : Tree)
@@ -103,8 +102,8 @@ descend-tried agrees done excused shape roots tree v v' f w h own same is =
     let s = same-of v (descended v) _ (descended-is v at.0 at.1.0 at.1.1.0 at.1.1.1.0) (record { self = record { number = refl; machine = refl; shape = refl }; enrolled = refl; marks = refl }) in
     did-step agrees done excused shape roots tree v v' f f (event.Descend v.number) (event.Descend w) Nothing (ap event.Descend same) own is refl
     (subst (λ u. Fits agrees shape roots tree u f) (sym is)
-      (fits-alone agrees shape roots tree v (descended v) f h (descended-keeps v h.worker own) s.self s.enrolled s.marks
-        (descended-roots (tree.roots v.machine) v h.within) (λ census. descended-count census v own)))
+    (fits-alone agrees shape roots tree v (descended v) f h (descended-keeps v h.worker own) s.self s.enrolled s.marks
+    (descended-roots (tree.roots v.machine) v h.within) (λ census. descended-count census v own)))
 
 pub append-tried : {F : Type 0} (agrees : F → ℕ → Holding → Type 0) (done : F → ℕ → Call → Given → F → Type 0) (excused : F → ℕ → Call → F → Type 0) (shape : F → Extents) (roots : F → ℕ → ℕ) (tree : Tree)
     (v v' : State) (f : F) (w : ℕ) → Fits agrees shape roots tree v f → own_guard (event.Append 0) v ≡ None → w ≡ v.number → v' ≡ appended v →
@@ -114,8 +113,8 @@ append-tried agrees done excused shape roots tree v v' f w h own same is =
     let s = same-of v (appended v) _ (appended-is v at.0 at.1.0 at.1.1.0 at.1.1.1.0) (record { self = record { number = refl; machine = refl; shape = refl }; enrolled = refl; marks = refl }) in
     did-step agrees done excused shape roots tree v v' f f (event.Append v.number) (event.Append w) Nothing (ap event.Append same) own is refl
     (subst (λ u. Fits agrees shape roots tree u f) (sym is)
-      (fits-alone agrees shape roots tree v (appended v) f h (appended-keeps v h.worker own) s.self s.enrolled s.marks
-        (appended-roots (tree.roots v.machine) v h.within) (λ census. appended-count census v h.worker own)))
+    (fits-alone agrees shape roots tree v (appended v) f h (appended-keeps v h.worker own) s.self s.enrolled s.marks
+    (appended-roots (tree.roots v.machine) v h.within) (λ census. appended-count census v h.worker own)))
 
 -- ---- with a call
 pub charge-tried : {F : Type 0} (agrees : F → ℕ → Holding → Type 0) (done : F → ℕ → Call → Given → F → Type 0) (excused : F → ℕ → Call → F → Type 0) (shape : F → Extents) (roots : F → ℕ → ℕ) (tree : Tree)
@@ -127,11 +126,11 @@ charge-tried agrees done excused shape roots tree v v' f f' w stage to h own sam
     let s = same-of v (charged v) _ (charged-is v (stage, to) waits) (record { self = record { number = refl; machine = refl; shape = refl }; enrolled = refl; marks = refl }) in
     did-step agrees done excused shape roots tree v v' f f' (event.Charge v.number) (event.Charge w) Nothing (ap event.Charge same) own is (rw waits r.made)
     (subst (λ u. Fits agrees shape roots tree u f') (sym is)
-      (fits-after agrees done shape roots tree v (charged v) f f' (ToCharge stage to) Nothing h r (may-charge v h.holding stage to h.worker h.holds own waits)
-        (charged-keeps v h.worker own) s.self (charged-roots (tree.roots v.machine) v h.within)
-        (holds-by v (charged v) h.holding (holds_after (ToCharge stage to) Nothing h.holding) (λ _. 0) (λ census. census.charged v.machine stage to)
-          (λ census. let e = charged-count census v (stage, to) own waits in omega arith) (h.holds.enrolled ∙ sym s.enrolled) s.marks refl (λ _. refl)
-          (λ i j. omega arith) (λ i j. omega arith) (λ i. omega arith) h.holds)))
+    (fits-after agrees done shape roots tree v (charged v) f f' (ToCharge stage to) Nothing h r (may-charge v h.holding stage to h.worker h.holds own waits)
+    (charged-keeps v h.worker own) s.self (charged-roots (tree.roots v.machine) v h.within)
+    (holds-by v (charged v) h.holding (holds_after (ToCharge stage to) Nothing h.holding) (λ _. 0) (λ census. census.charged v.machine stage to)
+    (λ census. let e = charged-count census v (stage, to) own waits in omega arith) (h.holds.enrolled ∙ sym s.enrolled) s.marks refl (λ _. refl)
+    (λ i j. omega arith) (λ i j. omega arith) (λ i. omega arith) h.holds)))
 
 pub fetch-tried : {F : Type 0} (agrees : F → ℕ → Holding → Type 0) (done : F → ℕ → Call → Given → F → Type 0) (excused : F → ℕ → Call → F → Type 0) (shape : F → Extents) (roots : F → ℕ → ℕ) (tree : Tree)
     (v v' : State) (f f' : F) (w : ℕ) (buffer : Batch) → Fits agrees shape roots tree v f → own_guard (event.Fetch 0) v ≡ None → w ≡ v.number →
@@ -144,11 +143,11 @@ fetch-tried agrees done excused shape roots tree v v' f f' w buffer h own same r
     let s = same-of v (fetched buffer v) _ (fetched-is v buffer hand.0 hand.1.0 at.0 at.1.0 at.1.1.0 at.1.1.1) (record { self = record { number = refl; machine = refl; shape = refl }; enrolled = refl; marks = refl }) in
     did-step agrees done excused shape roots tree v v' f f' (event.Fetch v.number) (event.Fetch w) (Taken buffer) (ap event.Fetch same) own is r.made
     (subst (λ u. Fits agrees shape roots tree u f') (sym is)
-      (fits-after agrees done shape roots tree v (fetched buffer v) f f' ToFetch (Taken buffer) h r tt
-        (fetched-keeps v buffer h.worker own (empty-given agrees shape roots tree v f buffer h r.something)) s.self (fetched-roots (tree.roots v.machine) v buffer h.within)
-        (holds-by v (fetched buffer v) h.holding (holds_after ToFetch (Taken buffer) h.holding) (λ census. census.charged v.machine hand.0 hand.1.0) (λ census. census.opened v.machine hand.0 hand.1.0 buffer.home)
-          (λ census. fetched-count census v buffer hand.0 hand.1.0 h.worker hand.1.1) (h.holds.enrolled ∙ sym s.enrolled) s.marks refl (λ _. refl)
-          (λ i j. omega arith) (λ i j. omega arith) (λ i. omega arith) h.holds)))
+    (fits-after agrees done shape roots tree v (fetched buffer v) f f' ToFetch (Taken buffer) h r tt
+    (fetched-keeps v buffer h.worker own (empty-given agrees shape roots tree v f buffer h r.something)) s.self (fetched-roots (tree.roots v.machine) v buffer h.within)
+    (holds-by v (fetched buffer v) h.holding (holds_after ToFetch (Taken buffer) h.holding) (λ census. census.charged v.machine hand.0 hand.1.0) (λ census. census.opened v.machine hand.0 hand.1.0 buffer.home)
+    (λ census. fetched-count census v buffer hand.0 hand.1.0 h.worker hand.1.1) (h.holds.enrolled ∙ sym s.enrolled) s.marks refl (λ _. refl)
+    (λ i j. omega arith) (λ i j. omega arith) (λ i. omega arith) h.holds)))
 
 pub post-tried : {F : Type 0} (agrees : F → ℕ → Holding → Type 0) (done : F → ℕ → Call → Given → F → Type 0) (excused : F → ℕ → Call → F → Type 0) (shape : F → Extents) (roots : F → ℕ → ℕ) (tree : Tree)
     (v v' : State) (f f' : F) (w stage to : ℕ) → Fits agrees shape roots tree v f → own_guard (event.Post 0 stage to) v ≡ None → w ≡ v.number →
@@ -169,11 +168,11 @@ push-tried agrees done excused shape roots tree v v' f f' w message h hand same 
     let gone : (census : Census) → of_hand census v.machine v.hand ≡ of_message census.posted message = λ census. ap (of_hand census v.machine) hand in
     did-step agrees done excused shape roots tree v v' f f' (event.Push v.number) (event.Push w) Nothing (ap event.Push same) own is (rw hand r.made)
     (subst (λ u. Fits agrees shape roots tree u f') (sym is)
-      (fits-after agrees done shape roots tree v (freed v) f f' (ToPush message) Nothing h r (may-push agrees shape roots tree v f message h hand)
-        (freed-keeps v h.worker) (record { number = refl; machine = refl; shape = refl }) h.within
-        (holds-by v (freed v) h.holding (holds_after (ToPush message) Nothing h.holding) (λ census. of_message census.posted message) (λ _. 0)
-          (λ census. let e = freed-count census v in let g = gone census in omega arith) h.holds.enrolled refl refl (λ _. refl)
-          (λ i j. omega arith) (λ i j. omega arith) (λ i. omega arith) h.holds)))
+    (fits-after agrees done shape roots tree v (freed v) f f' (ToPush message) Nothing h r (may-push agrees shape roots tree v f message h hand)
+    (freed-keeps v h.worker) (record { number = refl; machine = refl; shape = refl }) h.within
+    (holds-by v (freed v) h.holding (holds_after (ToPush message) Nothing h.holding) (λ census. of_message census.posted message) (λ _. 0)
+    (λ census. let e = freed-count census v in let g = gone census in omega arith) h.holds.enrolled refl refl (λ _. refl)
+    (λ i j. omega arith) (λ i j. omega arith) (λ i. omega arith) h.holds)))
 
 pub pop-tried : {F : Type 0} (agrees : F → ℕ → Holding → Type 0) (done : F → ℕ → Call → Given → F → Type 0) (excused : F → ℕ → Call → F → Type 0) (shape : F → Extents) (roots : F → ℕ → ℕ) (tree : Tree)
     (v v' : State) (f f' : F) (w stage : ℕ) (message : Message) → Fits agrees shape roots tree v f → own_guard (event.Pop 0 stage) v ≡ None → 0 < stage → stage < v.shape.stages → w ≡ v.number →
@@ -185,11 +184,11 @@ pop-tried agrees done excused shape roots tree v v' f f' w stage message h own s
     let free = (pop-facts v stage own).0 in
     did-step agrees done excused shape roots tree v v' f f' (event.Pop v.number stage) (event.Pop w stage) (Came message) (ap (λ n. event.Pop n stage) same) own is r.made
     (subst (λ u. Fits agrees shape roots tree u f') (sym is)
-      (fits-after agrees done shape roots tree v (popped message v) f f' (ToPop stage) (Came message) h r (some, low)
-        (popped-keeps v message h.worker (subst (λ k. own_guard (event.Pop 0 k) v ≡ None) (sym came.2) own) came.1 came.0) (record { number = refl; machine = refl; shape = refl }) h.within
-        (holds-by v (popped message v) h.holding (holds_after (ToPop stage) (Came message) h.holding) (λ _. 0) (λ census. of_message census.popped message)
-          (λ census. let e = popped-count census v message free in omega arith) h.holds.enrolled refl refl (λ _. refl)
-          (λ i j. omega arith) (λ i j. omega arith) (λ i. omega arith) h.holds)))
+    (fits-after agrees done shape roots tree v (popped message v) f f' (ToPop stage) (Came message) h r (some, low)
+    (popped-keeps v message h.worker (subst (λ k. own_guard (event.Pop 0 k) v ≡ None) (sym came.2) own) came.1 came.0) (record { number = refl; machine = refl; shape = refl }) h.within
+    (holds-by v (popped message v) h.holding (holds_after (ToPop stage) (Came message) h.holding) (λ _. 0) (λ census. of_message census.popped message)
+    (λ census. let e = popped-count census v message free in omega arith) h.holds.enrolled refl refl (λ _. refl)
+    (λ i j. omega arith) (λ i j. omega arith) (λ i. omega arith) h.holds)))
 
 pub pick-tried : {F : Type 0} (agrees : F → ℕ → Holding → Type 0) (done : F → ℕ → Call → Given → F → Type 0) (excused : F → ℕ → Call → F → Type 0) (shape : F → Extents) (roots : F → ℕ → ℕ) (tree : Tree)
     (v v' : State) (f f' : F) (w : ℕ) (message : Message) → Fits agrees shape roots tree v f → v.hand ≡ Popped message → w ≡ v.number →
@@ -201,11 +200,11 @@ pick-tried agrees done excused shape roots tree v v' f f' w message h hand same 
     let s = same-of v (picked v) _ (picked-is v message hand) (record { self = record { number = refl; machine = refl; shape = refl }; enrolled = refl; marks = refl }) in
     did-step agrees done excused shape roots tree v v' f f' (event.Pick v.number) (event.Pick w) Nothing (ap event.Pick same) own is (rw hand r.made)
     (subst (λ u. Fits agrees shape roots tree u f') (sym is)
-      (fits-after agrees done shape roots tree v (picked v) f f' (ToPick message.from message.stage) Nothing h r (may-pick v h.holding message h.worker hand)
-        (picked-keeps v h.worker own) s.self (picked-roots (tree.roots v.machine) v h.within)
-        (holds-by v (picked v) h.holding (holds_after (ToPick message.from message.stage) Nothing h.holding) (λ census. of_message census.popped message) (λ census. of_message census.framed message)
-          (λ census. picked-count census v message h.worker hand) (h.holds.enrolled ∙ sym s.enrolled) s.marks refl (λ _. refl)
-          (λ i j. omega arith) (λ i j. omega arith) (λ i. omega arith) h.holds)))
+    (fits-after agrees done shape roots tree v (picked v) f f' (ToPick message.from message.stage) Nothing h r (may-pick v h.holding message h.worker hand)
+    (picked-keeps v h.worker own) s.self (picked-roots (tree.roots v.machine) v h.within)
+    (holds-by v (picked v) h.holding (holds_after (ToPick message.from message.stage) Nothing h.holding) (λ census. of_message census.popped message) (λ census. of_message census.framed message)
+    (λ census. picked-count census v message h.worker hand) (h.holds.enrolled ∙ sym s.enrolled) s.marks refl (λ _. refl)
+    (λ i j. omega arith) (λ i j. omega arith) (λ i. omega arith) h.holds)))
 
 pub discharge-tried : {F : Type 0} (agrees : F → ℕ → Holding → Type 0) (done : F → ℕ → Call → Given → F → Type 0) (excused : F → ℕ → Call → F → Type 0) (shape : F → Extents) (roots : F → ℕ → ℕ) (tree : Tree)
     (v v' : State) (f f' : F) (w from stage : ℕ) → Fits agrees shape roots tree v f → v.hand ≡ Emptied from stage → w ≡ v.number →
@@ -217,11 +216,11 @@ discharge-tried agrees done excused shape roots tree v v' f f' w from stage h ha
     let gone : (census : Census) → of_hand census v.machine v.hand ≡ census.emptied from stage v.machine = λ census. ap (of_hand census v.machine) hand in
     did-step agrees done excused shape roots tree v v' f f' (event.Discharge v.number) (event.Discharge w) Nothing (ap event.Discharge same) own is (rw hand r.made)
     (subst (λ u. Fits agrees shape roots tree u f') (sym is)
-      (fits-after agrees done shape roots tree v (freed v) f f' (ToDischarge from stage) Nothing h r (may-discharge v h.holding from stage h.worker h.holds hand)
-        (freed-keeps v h.worker) (record { number = refl; machine = refl; shape = refl }) h.within
-        (holds-by v (freed v) h.holding (holds_after (ToDischarge from stage) Nothing h.holding) (λ census. census.emptied from stage v.machine) (λ _. 0)
-          (λ census. let e = freed-count census v in let g = gone census in omega arith) h.holds.enrolled refl refl (λ _. refl)
-          (λ i j. omega arith) (λ i j. omega arith) (λ i. omega arith) h.holds)))
+    (fits-after agrees done shape roots tree v (freed v) f f' (ToDischarge from stage) Nothing h r (may-discharge v h.holding from stage h.worker h.holds hand)
+    (freed-keeps v h.worker) (record { number = refl; machine = refl; shape = refl }) h.within
+    (holds-by v (freed v) h.holding (holds_after (ToDischarge from stage) Nothing h.holding) (λ census. census.emptied from stage v.machine) (λ _. 0)
+    (λ census. let e = freed-count census v in let g = gone census in omega arith) h.holds.enrolled refl refl (λ _. refl)
+    (λ i j. omega arith) (λ i j. omega arith) (λ i. omega arith) h.holds)))
 
 -- ---- when a call was not ready
 pub missed-tried : {F : Type 0} (agrees : F → ℕ → Holding → Type 0) (done : F → ℕ → Call → Given → F → Type 0) (excused : F → ℕ → Call → F → Type 0) (shape : F → Extents) (roots : F → ℕ → ℕ) (tree : Tree)

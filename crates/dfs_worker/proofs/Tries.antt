@@ -158,7 +158,7 @@ opens-some v x stage to message h held e =
     let machines = h.slots.machines in
     let to_in : to < v.shape.machines = let n = at.to_in in omega arith in
     let same : (message.stage ≡ stage) × (message.to ≡ to) =
-        same_from_place message.stage message.to stage to v.shape.machines is.whole.to to_in (is.place ∙ ap (λ q. slot_of q stage to) machines) in
+    same_from_place message.stage message.to stage to v.shape.machines is.whole.to to_in (is.place ∙ ap (λ q. slot_of q stage to) machines) in
     let taken = total-set_or (of_slot (own_credits stage to).opened) v.slots.messages (slot_of v.slots.machines stage to) None None within in
     let here = ap (of_slot (own_credits stage to).opened) at.here in
     let c : (nat_eq stage message.stage && nat_eq to message.to) ≡ true = rw (same.0, same.1, same-number stage, same-number to) refl in
@@ -177,7 +177,7 @@ may-post v x stage to message h held e =
     let k = at.stage_in in
     let to_in : to < v.shape.machines = omega arith in
     let same : (message.stage ≡ stage) × (message.to ≡ to) =
-        same_from_place message.stage message.to stage to v.shape.machines is.whole.to to_in (is.place ∙ ap (λ q. slot_of q stage to) machines) in
+    same_from_place message.stage message.to stage to v.shape.machines is.whole.to to_in (is.place ∙ ap (λ q. slot_of q stage to) machines) in
     let s = is.whole.some_stage in
     let z = same.0 in
     ((omega arith, omega arith), to_in, opens-some v x stage to message h held e)
@@ -193,7 +193,7 @@ pub fits-alone : {F : Type 0} (agrees : F → ℕ → Holding → Type 0) (shape
 fits-alone agrees shape roots tree v v' f h worker self enrolled marks within counts =
     fits-with agrees shape roots tree v v' f f h.holding h (record { same_shape = refl; same_roots = λ _. refl }) worker self within
     (holds-by v v' h.holding h.holding (λ _. 0) (λ _. 0) (λ census. let e = counts census in omega arith) (h.holds.enrolled ∙ sym enrolled) marks refl (λ _. refl)
-      (λ i j. omega arith) (λ i j. omega arith) (λ i. omega arith) h.holds)
+    (λ i j. omega arith) (λ i j. omega arith) (λ i. omega arith) h.holds)
     h.agreed
 
 pub advance-tried : {F : Type 0} (agrees : F → ℕ → Holding → Type 0) (done : F → ℕ → Call → Given → F → Type 0) (excused : F → ℕ → Call → F → Type 0) (shape : F → Extents) (roots : F → ℕ → ℕ) (tree : Tree)
@@ -202,5 +202,5 @@ pub advance-tried : {F : Type 0} (agrees : F → ℕ → Holding → Type 0) (do
 advance-tried agrees done excused shape roots tree v v' f w h own same is =
     did-step agrees done excused shape roots tree v v' f f (event.Advance v.number) (event.Advance w) Nothing (ap event.Advance same) own is refl
     (subst (λ u. Fits agrees shape roots tree u f) (sym is)
-      (fits-alone agrees shape roots tree v (advanced tree v) f h (advanced-keeps tree v h.tree_fits h.worker own) (record { number = refl; machine = refl; shape = refl }) refl refl
-        (advanced-roots (tree.roots v.machine) tree v.machine v.stack h.within) (λ census. advanced-count census tree v)))
+    (fits-alone agrees shape roots tree v (advanced tree v) f h (advanced-keeps tree v h.tree_fits h.worker own) (record { number = refl; machine = refl; shape = refl }) refl refl
+    (advanced-roots (tree.roots v.machine) tree v.machine v.stack h.within) (λ census. advanced-count census tree v)))

@@ -273,7 +273,7 @@ abbrev pub DidStart : {F : Type 0} → (F → ℕ → Call → Given → F → T
 DidStart {F} done excused tree v f made v' f' =
     (own_guard (event.Claim v.number) v ≡ None)
     × (((first : ℕ) × ((end : ℕ) × ((made ≡ event.Claim v.number) × (v' ≡ claimed tree first end v) × done f v.number ToClaim (Roots first end) f')))
-      ⊎ ((g : F) × ((made ≡ event.Retire v.number) × (v' ≡ retired v) × excused f v.number ToClaim g × done g v.number ToRetire Nothing f')))
+    ⊎ ((g : F) × ((made ≡ event.Retire v.number) × (v' ≡ retired v) × excused f v.number ToClaim g × done g v.number ToRetire Nothing f')))
 
 abbrev pub mark_event : ℕ → Word → Event
 mark_event w (Enrolled machine) = event.Mark w machine 0

@@ -136,7 +136,10 @@ fn pieces_stand_between_semicolons(rt: HostRuntime) -> Result<(), Fail> {
 #[test]
 fn texts_outside_utf8_are_refused(rt: HostRuntime) {
     for (text, want) in [
-        (b"SELECT '\xff' MATCH (a)".as_slice(), LexFault::BadCharacter(8)),
+        (
+            b"SELECT '\xff' MATCH (a)".as_slice(),
+            LexFault::BadCharacter(8),
+        ),
         (b"'\xc3\xa9\xc3'".as_slice(), LexFault::BadCharacter(3)),
         (b"'\xff".as_slice(), LexFault::OpenText(0)),
         (b"a;".as_slice(), LexFault::BadCharacter(1)),

@@ -33,18 +33,17 @@ position_cons {X} p x xs = by (p x) (nat_lt (position_or_len p xs) (length xs)) 
 -- a vertex among those that pass, and what stands for it in a list that goes along
 found-in : {X Y : Type 0} (p : ℕ × X → Bool) (f : ℕ × X → Y) (k j : ℕ) (x : X) (xs : List X) → slice_get xs j ≡ Some x → p (k + j, x) ≡ true
     → (place : ℕ) × (position (nat_eq (k + j)) (map (λ v. v.0) (filter p (numbered k xs))) ≡ Some place)
-      × (slice_get (map f (filter p (numbered k xs))) place ≡ Some (f (k + j, x)))
+    × (slice_get (map f (filter p (numbered k xs))) place ≡ Some (f (k + j, x)))
 found-in p f k j x [] found passes = cc
 found-in {X = X} p f k zero x (y ∷ ys) found passes =
     let same : y ≡ x = cc in
     let here : p (k, y) ≡ true = ap₂ (λ n z. p (n, z)) (let e : k ≡ k + 0 = omega arith in e) same ∙ passes in
     let rest = filter p (numbered (k + 1) ys) in
-    let is : filter p (numbered k (y ∷ ys)) ≡ (k, y) ∷ rest = ap (λ b. cond b ((k, y) ∷ rest) rest) here in
-    (
+    let is : filter p (numbered k (y ∷ ys)) ≡ (k, y) ∷ rest = ap (λ b. cond b ((k, y) ∷ rest) rest) here in (
       0,
       ap (λ zs. position (nat_eq (k + 0)) (map (λ (v : ℕ × X). v.0) zs)) is
-      ∙ position_cons (nat_eq (k + 0)) k (map (λ (v : ℕ × X). v.0) rest)
-      ∙ ap (λ b. cond b (Some 0) (option_map suc (position (nat_eq (k + 0)) (map (λ v. v.0) rest)))) (eq-eqb (k + 0) k (let e : k + 0 ≡ k = omega arith in e)),
+          ∙ position_cons (nat_eq (k + 0)) k (map (λ (v : ℕ × X). v.0) rest)
+          ∙ ap (λ b. cond b (Some 0) (option_map suc (position (nat_eq (k + 0)) (map (λ v. v.0) rest)))) (eq-eqb (k + 0) k (let e : k + 0 ≡ k = omega arith in e)),
       ap (λ zs. slice_get (map f zs) 0) is ∙ ap₂ (λ n z. Some (f (n, z))) (let e : k ≡ k + 0 = omega arith in e) same,
     )
 found-in {X = X} p f k (suc j) x (y ∷ ys) found passes =
@@ -56,12 +55,12 @@ found-in {X = X} p f k (suc j) x (y ∷ ys) found passes =
     at_answer : (b : Bool) (place : ℕ) → position (nat_eq (k + suc j)) (map (λ v. v.0) (filter p (numbered (k + 1) ys))) ≡ Some place
         → slice_get (map f (filter p (numbered (k + 1) ys))) place ≡ Some (f (k + suc j, x))
         → (place : ℕ) × (position (nat_eq (k + suc j)) (map (λ v. v.0) (cond b ((k, y) ∷ filter p (numbered (k + 1) ys)) (filter p (numbered (k + 1) ys)))) ≡ Some place)
-          × (slice_get (map f (cond b ((k, y) ∷ filter p (numbered (k + 1) ys)) (filter p (numbered (k + 1) ys)))) place ≡ Some (f (k + suc j, x)))
+        × (slice_get (map f (cond b ((k, y) ∷ filter p (numbered (k + 1) ys)) (filter p (numbered (k + 1) ys)))) place ≡ Some (f (k + suc j, x)))
     at_answer true place at is = (
       suc place,
       position_cons (nat_eq (k + suc j)) k (map (λ (v : ℕ × X). v.0) (filter p (numbered (k + 1) ys)))
-      ∙ ap (λ b. cond b (Some 0) (option_map suc (position (nat_eq (k + suc j)) (map (λ v. v.0) (filter p (numbered (k + 1) ys)))))) (ne_eqb (k + suc j) k (λ e. omega arith))
-      ∙ ap (option_map suc) at,
+          ∙ ap (λ b. cond b (Some 0) (option_map suc (position (nat_eq (k + suc j)) (map (λ v. v.0) (filter p (numbered (k + 1) ys)))))) (ne_eqb (k + suc j) k (λ e. omega arith))
+          ∙ ap (option_map suc) at,
       is,
     )
     at_answer false place at is = (place, at, is)

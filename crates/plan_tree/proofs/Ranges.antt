@@ -41,4 +41,3 @@ count_by-range n r = at_side (cases_lt n r) where
   at_side : (n < r) ⊎ (r ≤ n) → count_by (λ i. eqb i n) (range_with_len 0 r) ≡ bit (ltb n r)
   at_side (inl below) = sum_by-pick (λ _. 1) n r below ∙ ap bit (sym (lt-ltb n r below))
   at_side (inr past) = pick-past (λ _. 1) n 0 r (omega arith) ∙ ap bit (sym (le-ltb n r past))
-

@@ -41,8 +41,8 @@ LeavesAreAll = (texts : List (List ℕ)) (graph : PropertyGraph) (query : Query)
     → AllByRecursion (EndsIn graph.vertices) graph.edges → length graph.vertices < 2 ^ 32 → length graph.edges < 2 ^ 32 → HasShown texts graph
     → IsWellFormed query → words_of query ≤ CONTEXT_WORDS → AreTold graph query
     → (matches : List (List ℕ))
-      × StandForEach graph query (tree_leaves (tree_of (over_parts texts graph query owner machines))) matches
-      × SameCounts matches (all_matches texts graph query)
+    × StandForEach graph query (tree_leaves (tree_of (over_parts texts graph query owner machines))) matches
+    × SameCounts matches (all_matches texts graph query)
 
 -- Those trees are trees: a child is of the following stage and on a machine that there is, rows come at the last stage.
 abbrev pub PlansMakeTrees : Type 0

@@ -12,7 +12,7 @@ charge-requires g c =
     let h = c.requires.fits in
     rw c.number-w.ensures
     (may-call g.F.Fabric.agrees g.F.Fabric.shape g.F.Fabric.roots (g.X.Expand.tree c.args._x.now) c.args.worker.now c.args.fabric.now (ToCharge c.in-Some.stage c.in-Some.to) h
-      (may-charge c.args.worker.now h.holding c.in-Some.stage c.in-Some.to h.worker h.holds (guard-none c.guard.result _ c.guard.ensures (sym c.if-is_some.ensures)) (sym c.in-Some.ensures)))
+    (may-charge c.args.worker.now h.holding c.in-Some.stage c.in-Some.to h.worker h.holds (guard-none c.guard.result _ c.guard.ensures (sym c.if-is_some.ensures)) (sym c.in-Some.ensures)))
 
 pub returns-in-Charged-clause-tried : goal.returns-in-Charged-clause-tried
 returns-in-Charged-clause-tried g c =
@@ -22,7 +22,7 @@ returns-in-Charged-clause-tried g c =
 pub returns-in_default-charge : goal.returns-in_default-charge
 returns-in_default-charge g c = record {
   tried =
-    missed-tried g.F.Fabric.agrees g.F.Fabric.done g.F.Fabric.excused g.F.Fabric.shape g.F.Fabric.roots (g.X.Expand.tree c.args._x.now) c.args.worker.now c.args.worker.now c.args.fabric.now c.charge.new.self c.number-w.result (event.Charge c.args.worker.now.number) (ToCharge c.in-Some.stage c.in-Some.to) c.requires.fits
-    (guard-none c.guard.result _ c.guard.ensures (sym c.if-is_some.ensures)) c.number-w.ensures (ap charge_call (sym c.in-Some.ensures)) refl (charge-missed _ _ c.charge.result c.charge.ensures c.in_default-charge.not-Charged) refl;
+      missed-tried g.F.Fabric.agrees g.F.Fabric.done g.F.Fabric.excused g.F.Fabric.shape g.F.Fabric.roots (g.X.Expand.tree c.args._x.now) c.args.worker.now c.args.worker.now c.args.fabric.now c.charge.new.self c.number-w.result (event.Charge c.args.worker.now.number) (ToCharge c.in-Some.stage c.in-Some.to) c.requires.fits
+      (guard-none c.guard.result _ c.guard.ensures (sym c.if-is_some.ensures)) c.number-w.ensures (ap charge_call (sym c.in-Some.ensures)) refl (charge-missed _ _ c.charge.result c.charge.ensures c.in_default-charge.not-Charged) refl;
   kept = λ _. refl;
 }

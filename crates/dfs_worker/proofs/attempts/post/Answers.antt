@@ -13,7 +13,7 @@ post-requires g c =
     let at = post-facts c.args.worker.now c.args.stage c.args.to (guard-none c.guard.result _ c.guard.ensures (sym c.if-is_some.ensures)) in
     rw c.number-w.ensures
     (may-call g.F.Fabric.agrees g.F.Fabric.shape g.F.Fabric.roots (g.X.Expand.tree c.args._x.now) c.args.worker.now c.args.fabric.now (ToPost c.args.stage c.args.to) h
-      (may-post c.args.worker.now h.holding c.args.stage c.args.to at.0 h.worker h.holds at.1.1))
+    (may-post c.args.worker.now h.holding c.args.stage c.args.to at.0 h.worker h.holds at.1.1))
 
 pub returns-clause-tried : goal.returns-clause-tried
 returns-clause-tried g c =
