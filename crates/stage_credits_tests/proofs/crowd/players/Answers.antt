@@ -1,4 +1,5 @@
-use Rattle.std.proofs.Common.{List, length, sym, ap, subst, ◌∙◌, length-map}
+use Rattle.std.proofs.Common.{List, length, sym, ap, subst, ◌∙◌}
+use Rattle.std.proofs.lemmas.List.{length-map}
 use Rattle.std.specs.List.{All}
 use Rattle.stage_credits_tests.specs.declared.player.Player.{Player}
 use Rattle.stage_credits_tests.specs.Players.{IsReady, player_of}
@@ -14,4 +15,4 @@ pub returns-clause-count : goal.returns-clause-count
 returns-clause-count c =
     let credits = c.args.credits.now in
     let seats = c.args.seats.items in
-    ap (λ (ps : List Player). length ps) c.in_ok-players.ensures ∙ (length-map player_of seats ∙ length-fresh credits seats c.requires.fresh)
+    ap (λ (ps : List Player). length ps) c.in_ok-players.ensures ∙ (length-map seats player_of ∙ length-fresh credits seats c.requires.fresh)
