@@ -1,5 +1,5 @@
 //! Players in threads of their own.
-ghost use Rattle.std.specs.Prelude.{◌≡◌, ◌≤◌, ◌<◌, All, IfOk, length, map};
+ghost use Rattle.std.specs.Prelude.{◌≡◌, ◌<◌, ◌*◌, All, IfOk, length, map};
 ghost use Rattle.stage_credits.specs.Seats.{AreFreshSeats};
 ghost use Rattle.stage_credits_tests.specs.Players.{IsBuffer, IsReady, IsSmallTable, SitsAt, player_of};
 
@@ -21,7 +21,8 @@ pub fn players(
 ) -> Result<Vec<Player>, NoMemory>
     requires fresh { AreFreshSeats credits.now seats.items }
     requires workers { 0 < credits.now.setup.shape.workers }
-    ensures { IfOk result (λ players. All (IsReady credits.now) players.items) }
+    ensures ready { IfOk result (λ players. All (IsReady credits.now) players.items) }
+    ensures count { IfOk result (λ players. length players.items ≡ credits.now.setup.shape.machines * credits.now.setup.shape.workers) }
 {
     let _ = credits;
     let players = seated(alloc, seats)?;

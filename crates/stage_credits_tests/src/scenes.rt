@@ -1,7 +1,8 @@
 //! Whole runs of players over counters of their own. Each gives none where its shape is none.
-ghost use Rattle.std.specs.Prelude.{◌≡◌, ◌*◌, IfOk, IfSome, All, length};
-ghost use Rattle.stage_credits.specs.Seats.{AreAllSeats};
-ghost use Rattle.stage_credits_tests.specs.Players.{IsBuffer, IsReady, IsSmallTable, SitsAt};
+ghost use Rattle.std.specs.Prelude.{◌≡◌, ◌<◌, ◌*◌, IfOk, IfSome, None, All, length};
+ghost use Rattle.stage_credits.specs.Layout.{roots_of};
+ghost use Rattle.stage_credits.specs.Seats.{AreAllSeats, AreFreshSeats};
+ghost use Rattle.stage_credits_tests.specs.Players.{IsAtStart, IsBuffer, IsReady, IsSmallTable, IsTiny, SitsAt};
 
 use crate::closing::{Answers, close_all};
 use crate::crowd::{claim_all, clear_all, fill_all, play_all, players};
@@ -92,14 +93,7 @@ fn fills(credits: &Credits, player: &mut Player, limit: u32) -> Round
         stage: 1,
         machine: 0,
     };
-    let mut charged = 0;
-    for _ in 0..limit {
-        player.post(credits);
-        if let Charge::Charged = player.charge(credits, buffer) {
-            charged += 1;
-        }
-    }
-    player.post(credits);
+    let charged = charge_often(credits, player, buffer, limit);
     let full = player.charge(credits, buffer);
     player.discharge(credits);
     let picked = player.pick(credits, buffer);
@@ -111,6 +105,24 @@ fn fills(credits: &Credits, player: &mut Player, limit: u32) -> Round
         picked,
         again: player.charge(credits, buffer),
     }
+}
+
+/// Charges and posts so often, and says how often that went well.
+fn charge_often(credits: &Credits, player: &mut Player, buffer: Buffer, tries: u32) -> u32
+    requires ready { IsReady credits.now player.old }
+    requires buffer { IsBuffer credits.now.setup buffer }
+    ensures ready { IsReady credits.now player.new }
+    ensures free { player.new.in_hand ≡ None }
+{
+    let mut charged = 0;
+    player.post(credits);
+    for tried in 0..tries {
+        if let Charge::Charged = player.charge(credits, buffer) {
+            charged = tried + 1;
+        }
+        player.post(credits);
+    }
+    charged
 }
 
 /// The chunks that two workers claimed in threads of their own, by their first roots, and the cursor in the end.
@@ -165,9 +177,34 @@ pub fn closed_by_two(alloc: Global) -> Result<Option<Answers>, NoMemory> {
     let Some(shape) = Shape::new(1, 2, 2, 1, 1, 1) else {
         return Ok(None);
     };
-    let (credits, mut seats) = Credits::open(alloc, &shape, &[0])?;
-    let [first, second] = seats.as_mut_slice() else {
+    let (credits, seats) = Credits::open(alloc, &shape, &[0])?;
+    let mut seats = at_start(&credits, seats);
+    let Some(mut second) = last_seat(&credits, &mut seats) else {
         return Ok(None);
     };
-    Ok(Some(close_all(&credits, first, second)))
+    let Some(mut first) = last_seat(&credits, &mut seats) else {
+        return Ok(None);
+    };
+    Ok(Some(close_all(&credits, &mut first, &mut second)))
+}
+
+/// The same seats.
+fn at_start(credits: &Credits, seats: Vec<CreditSeat>) -> Vec<CreditSeat>
+    requires fresh { AreFreshSeats credits.now seats.items }
+    requires tiny { IsTiny credits.now }
+    requires workers { 0 < credits.now.setup.shape.workers }
+    requires roots { roots_of credits.now.setup 0 ≡ 0 }
+    ensures { All (IsAtStart credits.now) result.items }
+{
+    let _ = credits;
+    seats
+}
+
+fn last_seat(credits: &Credits, seats: &mut Vec<CreditSeat>) -> Option<CreditSeat>
+    requires { All (IsAtStart credits.now) seats.old.items }
+    ensures rest { All (IsAtStart credits.now) seats.new.items }
+    ensures last { IfSome result (IsAtStart credits.now) }
+{
+    let _ = credits;
+    seats.pop()
 }
