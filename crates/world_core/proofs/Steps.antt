@@ -5,7 +5,7 @@ use Rattle.match_context.specs.Tree.{Tree, IsTree}
 use Rattle.dfs_worker.specs.declared.event.Event.{Event}
 use Rattle.dfs_worker.specs.declared.event.Event.TheVariants.{Claim, Retire, Advance, Descend, Append, Charge, Fetch, Post, Push, Pop, Pick, Restore, Discharge, Mark, Close}
 use Rattle.dfs_worker.specs.State.{State}
-use Rattle.dfs_worker.proofs.Advances.{TreeFits}
+use Rattle.dfs_worker.specs.Sound.{TreeFits}
 use Rattle.world_core.specs.Sound.{Sound}
 use Rattle.world_core.specs.Step.{Step, worker_of, guard_of, own_part, shared_part, happens, happens_at}
 use Rattle.world_core.specs.World.{World, Fits}
