@@ -28,7 +28,8 @@ use Rattle.std.specs.List.{list_all}
 use Rattle.std.proofs.lemmas.Bool.{eqb-true}
 use Rattle.dfs_worker.specs.Sound.{IsWorker, WithinRoots}
 use Rattle.dfs_worker.specs.State.{State, waiting}
-use Rattle.dfs_worker.proofs.Advances.{TreeFits, advanced-keeps}
+use Rattle.dfs_worker.specs.Sound.{TreeFits}
+use Rattle.dfs_worker.proofs.Advances.{advanced-keeps}
 use Rattle.dfs_worker.proofs.Counts.{claimed-count, retired-count, advanced-count, descended-count, appended-count, charged-count, fetched-count, posted-count, freed-count, popped-count, picked-count, restored-count}
 use Rattle.dfs_worker.proofs.Facts.{must-none, start-facts}
 use Rattle.dfs_worker.proofs.Keeps.{claimed-keeps, retired-keeps, descended-keeps, appended-keeps, charged-keeps, fetched-keeps, posted-keeps, freed-keeps, popped-keeps, picked-keeps, restored-keeps, marked-keeps}
