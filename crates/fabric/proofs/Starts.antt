@@ -14,7 +14,7 @@ map-alike f c [] each = refl
 map-alike {A} {B} f c (x ∷ xs) each =
     ap (λ y. y ∷ map f xs) (each 0 x refl) ∙ ap (λ ys. c ∷ ys) (map-alike f c xs (λ i y e. each (suc i) y e))
 
-alike : {A : Type 0} (n : ℕ) (x : A) (i : ℕ) (y : A) → slice_get (replicate n x) i ≡ Some y → y ≡ x
+pub alike : {A : Type 0} (n : ℕ) (x : A) (i : ℕ) (y : A) → slice_get (replicate n x) i ≡ Some y → y ≡ x
 alike zero x i y e = cc
 alike (suc n) x zero y e = cc
 alike (suc n) x (suc i) y e = alike n x i y e
@@ -48,7 +48,7 @@ pub new-is : (a : Inside) (roots : List ℕ) → IsNew a roots → shared_of a �
 new-is a roots new =
     rw (new.same_roots, pools-full a roots new, inboxes-empty a roots new, new.used, new.flying, new.cursors, new.enrolled, new.closed) refl
 
-start-shared : (shape : Extents) (roots : List ℕ) → IsShape shape → length roots ≡ shape.machines → IsShared (start shape roots)
+pub start-shared : (shape : Extents) (roots : List ℕ) → IsShape shape → length roots ≡ shape.machines → IsShared (start shape roots)
 start-shared shape roots is count =
     record {
       shape = is;

@@ -80,5 +80,7 @@ post-may s v stage to w may =
 pub advance-roots : (tree : Tree) (s : Shared) (v : State) → IsPart s v → Fits tree s → WithinRoots (tree.roots v.machine) v.stack
 advance-roots tree s v part fits =
     let low = part.cursors in
-    let same = fits.same_roots v.machine in
+    let here = part.worker.machine in
+    let machines = ap (λ x. x.machines) part.placed.shape in
+    let same = fits.same_roots v.machine (omega arith) in
     roots-more (cursor_at s v.machine) (tree.roots v.machine) v.stack part.claimed (omega arith)

@@ -26,8 +26,9 @@ use Rattle.match_context.specs.declared.frame.Rest.TheVariants as rest
 use Rattle.stage_termination.specs.Marks.{is_ready}
 use Rattle.std.specs.List.{list_all}
 use Rattle.std.proofs.lemmas.Bool.{eqb-true}
-use Rattle.dfs_worker.specs.Sound.{IsWorker, WithinRoots, TreeFits}
+use Rattle.dfs_worker.specs.Sound.{IsWorker, WithinRoots}
 use Rattle.dfs_worker.specs.State.{State, waiting}
+use Rattle.dfs_worker.specs.Sound.{TreeFits}
 use Rattle.dfs_worker.proofs.Advances.{advanced-keeps}
 use Rattle.dfs_worker.proofs.Counts.{claimed-count, retired-count, advanced-count, descended-count, appended-count, charged-count, fetched-count, posted-count, freed-count, popped-count, picked-count, restored-count}
 use Rattle.dfs_worker.proofs.Facts.{must-none, start-facts}

@@ -78,7 +78,7 @@ inbox-of_set s a j n k old new ms i b was is at =
     back false e is q = absurd (none-some ms (sym (ap (λ x. cond x (slice_get (slice_set s.inboxes (inbox_place s a j) new) (inbox_place s n k)) None) e) ∙ is))
 
 -- ---- push
-space-in : (x : Extents) (o : Option (List Message)) → has_space x o ≡ true → (ms : List Message) × (o ≡ Some ms)
+pub space-in : (x : Extents) (o : Option (List Message)) → has_space x o ≡ true → (ms : List Message) × (o ≡ Some ms)
 space-in x None e = cc
 space-in x (Some ms) e = (ms, refl)
 
@@ -116,7 +116,7 @@ push-for w i v b ms sound at hand there =
     ])
     (sound.claimed i v at)
 
-tested-posted : (test : Message → Bool) (hand : Hand) (b : Message) → hand ≡ Posted b → posted_test test hand ≡ true → test b ≡ true
+pub tested-posted : (test : Message → Bool) (hand : Hand) (b : Message) → hand ≡ Posted b → posted_test test hand ≡ true → test b ≡ true
 tested-posted test hand b e t = sym (ap (posted_test test) e) ∙ t
 
 pub push-happens : (tree : Tree) (w : World) (i : ℕ) (v : State) → Sound w → slice_get w.workers i ≡ Some v → own_guard (Push i) v ≡ None → shared_guard (Push i) v w.shared ≡ None → After tree w (Push i) v
@@ -131,7 +131,7 @@ push-happens tree w i v sound at guards shared =
     (push-for w i v b inbox.0 sound at f.1 inbox.1)
 
 -- ---- pop
-first-message : (o : Option (List Message)) → is_some (first_in o) ≡ true → (b : Message) × ((bs : List Message) × (o ≡ Some (b ∷ bs)))
+pub first-message : (o : Option (List Message)) → is_some (first_in o) ≡ true → (b : Message) × ((bs : List Message) × (o ≡ Some (b ∷ bs)))
 first-message None e = cc
 first-message (Some []) e = cc
 first-message (Some (b ∷ bs)) e = (b, (bs, refl))

@@ -4,7 +4,9 @@ pub mod Inboxes
 pub mod Made
 pub mod Moves
 pub mod Moving
+pub mod Owes
 pub mod Parts
+pub mod Starts
 pub mod Steps
 pub mod Travels
 pub mod Words

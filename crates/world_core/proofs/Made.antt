@@ -15,6 +15,9 @@ use Rattle.world_core.specs.Step.{Step, worker_of, guard_of, own_part, shared_pa
 use Rattle.world_core.specs.Stepped.{AddsARow, IsStepped, stepped_of}
 use Rattle.world_core.specs.World.{World, world_of, Fits}
 use Rattle.world_core.proofs.Parts.{Enabled, enabled-facts}
+use Rattle.match_context.specs.declared.context.Context.{Context}
+use Rattle.world_core.specs.Owed.{owed}
+use Rattle.world_core.proofs.Owes.{step-owes}
 use Rattle.world_core.proofs.Steps.{happens-is, step-sound, step-fits}
 
 -- the worker that the code reads is the event's
@@ -59,6 +62,11 @@ pub record Leaves (tree : Tree) (w w' : World) (e : Event) (r : Result (Unit {0}
   pub stepped : IsStepped tree w e (stepped_of r) w'
   pub sound : Sound w'
   pub fits : Fits tree w'.shared
+  pub owes : (row : Context → ℕ) → owed row tree w ≡ owed row tree w'
+
+stepped-owes : (row : Context → ℕ) (tree : Tree) (w w' : World) (e : Event) (r : Result (Unit {0}) base.NoMemory) → IsTree tree → Fits tree w.shared → Sound w → IsStepped tree w e (stepped_of r) w' → owed row tree w ≡ owed row tree w'
+stepped-owes row tree w w' e (Ok u) law fits sound step = step-owes row tree w w' e law fits sound step
+stepped-owes row tree w w' e (Err x) law fits sound step = ap (owed row tree) (sym step.1)
 
 pub leaves : (tree : Tree) (w : World) (e : Event) (i : ℕ) (v v' : State) (h : Shared) (r : Result (Unit {0}) base.NoMemory) → IsTree tree → Fits tree w.shared → Sound w →
     guard_of w e ≡ None → i ≡ worker_of e → v ≡ get_or w.workers i v → IsMade tree w e v r v' h → Leaves tree w (world_of (slice_set w.workers i v') h) e r
@@ -69,4 +77,5 @@ leaves tree w e i v v' h r law fits sound g same read made =
       stepped = step;
       sound = stepped-sound tree w (world_of (slice_set w.workers i v') h) e r law fits sound step;
       fits = stepped-fits tree w (world_of (slice_set w.workers i v') h) e r law fits sound step;
+      owes = λ row. stepped-owes row tree w (world_of (slice_set w.workers i v') h) e r law fits sound step;
     }

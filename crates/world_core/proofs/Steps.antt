@@ -1,5 +1,5 @@
 -- Every step leaves a sound world sound.
-use Rattle.std.proofs.Common.{◌≡◌, ℕ, List, Option, Some, None, refl, sym, ap, subst, ◌∙◌}
+use Rattle.std.proofs.Common.{◌≡◌, ℕ, ◌<◌, List, Option, Some, None, refl, sym, ap, subst, ◌∙◌}
 use Rattle.std.specs.Prelude.{slice_get, slice_set, slice_index}
 use Rattle.match_context.specs.Tree.{Tree, IsTree}
 use Rattle.dfs_worker.specs.declared.event.Event.{Event}
@@ -54,5 +54,5 @@ step-fits tree w w' e law fits sound step =
     (record {
       stages = ap (λ s. s.stages) moves.shape ∙ fits.stages;
       machines = ap (λ s. s.machines) moves.shape ∙ fits.machines;
-      same_roots = λ m. ap (λ xs. slice_index xs m) moves.roots ∙ fits.same_roots m;
+      same_roots = λ m low. ap (λ xs. slice_index xs m) moves.roots ∙ fits.same_roots m (subst (λ x. m < x.machines) moves.shape low);
     })

@@ -56,7 +56,7 @@ message-unit w x b same is =
 
 -- ---- charge
 -- the child for which a credit is taken
-child-unit : (w : World) (i : ℕ) (v : State) → Sound w → slice_get w.workers i ≡ Some v → own_guard (Charge i) v ≡ None →
+pub child-unit : (w : World) (i : ℕ) (v : State) → Sound w → slice_get w.workers i ≡ Some v → own_guard (Charge i) v ≡ None →
     (k : ℕ) × ((n : ℕ) × ((waiting v.stack ≡ Some (k, n)) × IsUnit w.shared v.machine k n))
 child-unit w i v sound at guards =
     let f = child-facts v (λ stage to. not (is_open v.slots stage to)) guard.Open guards in

@@ -1,4 +1,5 @@
-ghost use Rattle.std.specs.Prelude.{◌≡◌, IfOk};
+ghost use Rattle.std.specs.Prelude.{◌≡◌};
+ghost use Rattle.world_core.specs.Owed.{owed};
 ghost use Rattle.world_core.specs.Step.{guard_of};
 ghost use Rattle.world_core.specs.Stepped.{IsStepped, stepped_of};
 ghost use Rattle.world_core.specs.World.{Fits};
@@ -41,6 +42,20 @@ fn stepped(made: Result<(), NoMemory>) -> Stepped
 }
 
 impl World {
+    /// The workers, in the order of their numbers.
+    pub fn workers(&self) -> &[Worker]
+        ensures { result.now ≡ self.now.workers }
+    {
+        &self.workers
+    }
+
+    /// What they share.
+    pub fn fabric(&self) -> &PlainFabric
+        ensures { result.now ≡ self.now.shared }
+    {
+        &self.fabric
+    }
+
     /// The first guard of the event that fails. None exactly where all hold.
     pub fn enabled<X: Expand>(&self, x: &X, event: &Event) -> Option<Guard>
         ensures { result ≡ guard_of self.now event.now }
@@ -54,6 +69,7 @@ impl World {
         requires { Fits (X.tree x.now) self.old.shared }
         ensures stepped { IsStepped (X.tree x.now) self.old event.now result self.new }
         ensures fits { Fits (X.tree x.now) self.new.shared }
+        ensures owed { (row : _) → owed row (X.tree x.now) self.old ≡ owed row (X.tree x.now) self.new }
     {
         if let Some(guard) = first_guard(&self.workers, &self.fabric, event) {
             return Stepped::NotEnabled(guard);

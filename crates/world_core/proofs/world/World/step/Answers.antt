@@ -4,6 +4,8 @@ use Rattle.dfs_worker.specs.State.{State}
 use Rattle.world_core.specs.Step.{guard_of}
 use Rattle.world_core.specs.Stepped.{IsStepped, stepped_of}
 use Rattle.world_core.specs.World.{World, world_of, Fits}
+use Rattle.match_context.specs.declared.context.Context.{Context}
+use Rattle.world_core.specs.Owed.{owed}
 use Rattle.world_core.proofs.Parts.{may-make, sound-part}
 use Rattle.world_core.proofs.Made.{IsMade, Leaves, leaves, enabled-read}
 use Rattle.world_core.proofs.world.World.step.Given as given
@@ -44,3 +46,12 @@ returns-clause-stepped g c =
     let t = g.X.Expand.tree c.args.x.now in
     subst (λ r. IsStepped t c.args.self.now c.args.event.now r w') (sym c.stepped.ensures)
     (subst (λ u. IsStepped t u c.args.event.now (stepped_of c.make.result) w') c.self.view_is (after g c).stepped)
+
+pub returns-clause-owed : goal.returns-clause-owed
+returns-clause-owed g c =
+    let w' = world_of (slice_set c.self.inside.workers.items c.worker_of-at.result c.make.new.worker) c.make.new.fabric in
+    let t = g.X.Expand.tree c.args.x.now in
+    subst (λ (u : World). (row : Context → ℕ) → owed row t u ≡ owed row t w') c.self.view_is (after g c).owes
+
+pub returns-clause-fits : goal.returns-clause-fits
+returns-clause-fits g c = (after g c).fits
