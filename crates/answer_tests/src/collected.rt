@@ -102,7 +102,7 @@ fn query(alloc: Global) -> Result<Query, NoMemory> {
 
 fn key_of(graph: &Graph, vertex: u32) -> u64 {
     if vertex < graph.vertices() {
-        graph.vertex(vertex).0 as u64
+        graph.vertex(vertex).0.unsigned_abs()
     } else {
         0
     }
@@ -128,7 +128,7 @@ fn collected(
     query: &Query,
     texts: &Texts,
 ) -> Result<Vec<Row>, NoMemory> {
-    if query.variables.len() + query.captures.len() > 39 {
+    if query.variables.len().saturating_add(query.captures.len()) > 39 {
         return Err(NoMemory);
     }
     collect(alloc, contexts, query, texts)
