@@ -18,7 +18,7 @@ use Rattle.dfs_worker.specs.Census.{Census, count, of_slot, one, credits_of, fly
 use Rattle.dfs_worker.specs.Sound.{IsWorker, WithinRoots}
 use Rattle.dfs_worker.specs.State.{State, fresh, no_slots}
 use Rattle.world_core.specs.Sound.{Sound, IsPlaced, enrolled_of, queued, homes_in}
-use Rattle.world_core.specs.World.{World, Fits, roots_of, fresh_workers, start_world}
+use Rattle.world_core.specs.World.{World, world_of, Fits, roots_of, fresh_workers, start_world}
 use Rattle.world_core.proofs.Words.{place-within}
 
 -- ---- lists
@@ -210,3 +210,10 @@ start-fits shape tree stages machines =
       machines = machines;
       same_roots = λ m low. get_or_from_slice_get (roots_of tree shape.machines) m (tree.roots m) 0 (roots-at tree shape.machines m low);
     }
+
+-- the parts of a new world
+pub new-is : (shape : Extents) (tree : Tree) (found roots : List ℕ) (workers : List State) (s : Shared) → workers ≡ fresh_workers shape (shape.machines * shape.workers) → s ≡ start shape found → found ≡ roots →
+    roots ≡ roots_of tree tree.machines → shape.machines ≡ tree.machines → world_of workers s ≡ start_world shape tree
+new-is shape tree found roots workers s fresh_ones started same are machines =
+    ap (λ ws. world_of ws s) fresh_ones
+    ∙ ap (λ h. world_of (fresh_workers shape (shape.machines * shape.workers)) h) (started ∙ ap (start shape) (same ∙ are ∙ ap (roots_of tree) (sym machines)))

@@ -1,16 +1,18 @@
-ghost use Rattle.std.specs.Prelude.{◌≡◌};
+ghost use Rattle.std.specs.Prelude.{◌≡◌, ◌*◌, IfOk, length};
+ghost use Rattle.adfs_base.specs.Shape.{IsShape};
 ghost use Rattle.world_core.specs.Owed.{owed};
 ghost use Rattle.world_core.specs.Step.{guard_of};
 ghost use Rattle.world_core.specs.Stepped.{IsStepped, stepped_of};
-ghost use Rattle.world_core.specs.World.{Fits};
+ghost use Rattle.world_core.specs.World.{Fits, fresh_workers, roots_of, start_world};
 
 use crate::events::make;
 use crate::guards::{first_guard, worker_of};
 use crate::stepped::Stepped;
-use adfs_base::NoMemory;
+use adfs_base::{NoMemory, Shape};
 use dfs_worker::{Event, Guard, Worker};
 use fabric::PlainFabric;
 use match_context::Expand;
+use std::alloc::Global;
 use std::marker::Model;
 
 /// All workers and what they share. A contract sees it as the record of the two, and it is always sound.
@@ -76,5 +78,46 @@ impl World {
         }
         let at = worker_of(event) as usize;
         stepped(make(&mut self.workers[at], &mut self.fabric, x, event))
+    }
+}
+
+// The numbers of roots of all machines.
+fn roots_of<X: Expand>(alloc: Global, x: &X) -> Result<Vec<u64>, NoMemory>
+    ensures roots { IfOk result (λ v. v.items ≡ roots_of (X.tree x.now) (X.tree x.now).machines) }
+    ensures count { IfOk result (λ v. length v.items ≡ (X.tree x.now).machines) }
+{
+    let mut roots = Vec::with_capacity(alloc, x.machines() as usize)?;
+    for machine in 0..x.machines() {
+        roots.push(x.roots(machine))?;
+    }
+    Ok(roots)
+}
+
+// All workers at the start.
+fn new_workers(alloc: Global, shape: &Shape) -> Result<Vec<Worker>, NoMemory>
+    ensures fresh { IfOk result (λ v. v.items ≡ fresh_workers shape.now (shape.now.machines * shape.now.workers)) }
+    ensures sound { IsShape shape.now }
+{
+    let count = shape.machines() * shape.workers();
+    let mut workers = Vec::with_capacity(alloc, count as usize)?;
+    for w in 0..count {
+        workers.push(Worker::new(alloc, w, shape)?)?;
+    }
+    Ok(workers)
+}
+
+impl World {
+    /// The start of a run: all workers are enrolled, all pools full, and all else is 0 or empty. The tree has the
+    /// stages and machines of the shape, and the world keeps its numbers of roots.
+    pub fn new<X: Expand>(alloc: Global, x: &X, shape: &Shape) -> Result<World, NoMemory>
+        requires stages { shape.now.stages ≡ (X.tree x.now).stages }
+        requires machines { shape.now.machines ≡ (X.tree x.now).machines }
+        ensures start { IfOk result (λ w. w ≡ start_world shape.now (X.tree x.now)) }
+        ensures fits { IfOk result (λ w. Fits (X.tree x.now) w.shared) }
+    {
+        let roots = roots_of(alloc, x)?;
+        let fabric = PlainFabric::new(alloc, shape, &roots)?;
+        let workers = new_workers(alloc, shape)?;
+        Ok(World { workers, fabric })
     }
 }
