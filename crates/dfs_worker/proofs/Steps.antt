@@ -41,7 +41,8 @@ use Rattle.dfs_worker.proofs.Holdings.{may-call, holds-by, SameSelf, fits-after,
 use Rattle.dfs_worker.proofs.Keeps.{IsEmpty, descended-keeps, descended-is, appended-keeps, appended-is, charged-keeps, charged-is, fetched-keeps, posted-keeps, posted-is, freed-keeps, popped-keeps, picked-keeps, restored-keeps}
 use Rattle.dfs_worker.proofs.Places.{OpenAt, open-facts, slot-within, total-set_or}
 use Rattle.dfs_worker.proofs.Roots.{advanced-roots, descended-roots, appended-roots, charged-roots, fetched-roots, posted-roots, picked-roots, restored-roots}
-use Rattle.dfs_worker.proofs.Tries.{did-step, missed-step, barred-step, fits-alone, may-push, may-pick, may-discharge, may-charge, may-post}
+
+use Rattle.dfs_worker.proofs.Asks.{did-step, missed-step, barred-step, fits-alone, may-push, may-pick, may-discharge, may-charge, may-post}
 use Rattle.dfs_worker.proofs.Facts.{Ends}
 use Rattle.dfs_worker.proofs.Keeps.{fetched-is, picked-is, restored-is}
 
@@ -54,7 +55,7 @@ pub record Same (v v' : State) : Type 0 where
 same-refl : (v : State) → Same v v
 same-refl v = record { self = record { number = refl; machine = refl; shape = refl }; enrolled = refl; marks = refl }
 
-same-of : (v u w : State) → u ≡ w → Same v w → Same v u
+pub same-of : (v u w : State) → u ≡ w → Same v w → Same v u
 same-of v u w e same = subst (Same v) (sym e) same
 
 -- ---- what a call gives

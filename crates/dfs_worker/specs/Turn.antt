@@ -163,8 +163,8 @@ tries_of w stages stack hand attempt.PostOthers = PostOther ∷ []
 tries_of w stages stack hand attempt.Pop = pops_from w (lowest_pop stack) (stages - lowest_pop stack)
 tries_of w stages stack hand attempt.Claim = Start ∷ []
 tries_of w stages stack hand attempt.Retire = []
-tries_of w stages stack hand attempt.Mark = NextMark ∷ []
-tries_of w stages stack hand attempt.Close = NextClose ∷ []
+tries_of w stages stack hand attempt.Mark = []
+tries_of w stages stack hand attempt.Close = []
 
 abbrev pub all_tries : ℕ → ℕ → List Frame → Hand → List Attempt → List Try
 all_tries w stages stack hand [] = []
@@ -355,7 +355,8 @@ NoOther v = (k n : ℕ) → 0 < k → k < v.shape.stages → n < v.shape.machine
 
 abbrev pub PassedStart : {F : Type 0} → (F → ℕ → Call → F → Type 0) → State → F → F → Type 0
 PassedStart excused v f f' =
-    ((own_guard (event.Claim v.number) v ≡ None → ⊥) × (f' ≡ f)) ⊎ ((own_guard (event.Claim v.number) v ≡ None) × excused f v.number ToClaim f')
+    ((own_guard (event.Claim v.number) v ≡ None → ⊥) × (f' ≡ f))
+    ⊎ ((own_guard (event.Claim v.number) v ≡ None) × excused f v.number ToClaim f' × excused f v.number ToRetire f')
 
 abbrev pub MissedMark : {F : Type 0} → (F → ℕ → Call → F → Type 0) → F → ℕ → Option Word → F → Type 0
 MissedMark excused f w None f' = f' ≡ f

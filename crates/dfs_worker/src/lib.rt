@@ -9,6 +9,7 @@ mod guards;
 mod hand;
 mod outbox;
 mod stack;
+mod starts;
 mod turn;
 mod worker;
 

@@ -66,10 +66,10 @@ guard-none None own e h = sym e
 guard-none (Some g) own e h = cc
 
 -- ---- what the worker holds
-same-number : (n : ℕ) → nat_eq n n ≡ true
+pub same-number : (n : ℕ) → nat_eq n n ≡ true
 same-number n = grind (arith, nat_tests)
 
-one-true : (b : Bool) → b ≡ true → one b ≡ 1
+pub one-true : (b : Bool) → b ≡ true → one b ≡ 1
 one-true true e = refl
 one-true false e = cc
 
