@@ -1,59 +1,41 @@
 -- The steps of a turn that begin and end a worker's roots, and the one that ends a message.
-use Rattle.std.proofs.Common.{◌≡◌, ℕ, ◌+◌, ◌-◌, ◌<◌, ◌≤◌, Bool, true, false, cond, not, ◌&&◌, List, [], ◌∷◌, length, get_or, Option, Some, None, is_some, refl, sym, ap, ◌∙◌, subst, arith, ◌⊎◌, inl, inr}
-use Rattle.std.specs.Prelude.{nat_lt, nat_eq}
-use Rattle.std.proofs.lemmas.Bool.Decides.{nat_tests}
-use Rattle.std.proofs.lemmas.Nat.{same_from_place}
+use Rattle.std.proofs.Common.{◌≡◌, ℕ, ◌<◌, ◌≤◌, Bool, true, List, [], ◌∷◌, Some, None, refl, sym, ap, ◌∙◌, subst, arith, inl, inr}
+use Rattle.std.specs.Prelude.{nat_eq}
 use Rattle.adfs_base.specs.Shape.{Extents}
-use Rattle.fabric.specs.Account.{Holding, SameHolding, Call, ToClaim, ToRetire, ToCharge, ToFetch, ToPost, ToPush, ToPop, ToPick, ToRestore, ToDischarge, ToMark, ToClose, ToLook, Given, Nothing, Roots, Taken, Came, Seen, Allows, holds_after, unlooked, at_end, IsLater}
-use Rattle.fabric.specs.Calls.{IsMessageOf, empty_buffer}
-use Rattle.fabric.specs.Fabric.{MayCall, SameExtent, Ready, Missed, machine_in, OnCharge, OnPick}
-use Rattle.match_context.specs.Bags.{total}
+use Rattle.fabric.specs.Account.{Holding, Call, ToClaim, ToRetire, ToRestore, Given, Nothing, Roots, Allows, holds_after, unlooked, at_end}
+use Rattle.fabric.specs.Calls.{empty_buffer}
+use Rattle.fabric.specs.Fabric.{MayCall, Ready, Missed, machine_in}
 use Rattle.match_context.specs.Batch.{Batch}
 use Rattle.match_context.specs.Tree.{Tree}
-use Rattle.match_context.specs.declared.context.Context.{Context}
 use Rattle.match_context.specs.declared.frame.Frame.{Frame}
-use Rattle.match_context.specs.declared.frame.Rest.{Rest}
 use Rattle.match_context.specs.declared.frame.Rest.TheVariants as rest
 use Rattle.match_context.specs.declared.message.Message.{Message}
-use Rattle.dfs_worker.specs.declared.event.Event.{Event}
 use Rattle.dfs_worker.specs.declared.event.Event.TheVariants as event
-use Rattle.dfs_worker.specs.declared.guard.Guard.{Guard}
 use Rattle.dfs_worker.specs.declared.guard.Guard.TheVariants as guard
-use Rattle.dfs_worker.specs.declared.hand.Hand.{Hand}
-use Rattle.dfs_worker.specs.declared.hand.Hand.TheVariants.{Free, Charged, Posted, Popped, Emptied}
-use Rattle.dfs_worker.specs.declared.turn.Turn.{Turn}
-use Rattle.dfs_worker.specs.declared.turn.Turn.TheVariants.{Did, Idle, NoMemory}
-use Rattle.dfs_worker.specs.Census.{Census, count, one, of_slot, of_message, of_hand, of_stack, of_rest}
-use Rattle.dfs_worker.specs.Guards.{own_guard, has_top, top_over, is_charged, is_posted, is_popped, is_emptied}
-use Rattle.dfs_worker.specs.Own.{advanced, AddsRow, descended, appended, charged, fetched, posted, freed, popped, picked, restored}
-use Rattle.dfs_worker.specs.Slots.{Slots, slot_of, open_at, is_open}
-use Rattle.dfs_worker.specs.Sound.{StandsOn, IsStack, IsHand, IsWorker, WithinRoots, TreeFits, IsPacket}
-use Rattle.dfs_worker.specs.State.{State, is_free, next_stage, waiting, waiting_by}
-use Rattle.adfs_base.specs.declared.step_answers.Charge.{Charge}
-use Rattle.adfs_base.specs.declared.step_answers.Charge.TheVariants as charge
-use Rattle.adfs_base.specs.declared.step_answers.Pick.{Pick}
-use Rattle.adfs_base.specs.declared.step_answers.Pick.TheVariants as pick
-use Rattle.dfs_worker.specs.Turn.{call_of, push_call, pick_call, own_part, left_by, MissedCall, Made, Step, DidStep, IsTurn, Tried, Holds, Fits, own_credits, works_of, homes_of}
-use Rattle.dfs_worker.proofs.Advances.{advanced-keeps}
-use Rattle.dfs_worker.proofs.Counts.{advanced-count, descended-count, appended-count, charged-count, fetched-count, posted-count, freed-count, popped-count, picked-count, restored-count}
-use Rattle.dfs_worker.proofs.Facts.{free-hand, child-facts, charged-facts, charges-facts, post-facts, push-facts, pop-facts, pick-facts, discharge-facts, restore-facts, waiting-is}
-use Rattle.dfs_worker.proofs.Holdings.{may-call, holds-by, SameSelf, fits-after, fits-with, fits-missed}
-use Rattle.dfs_worker.proofs.Keeps.{IsEmpty, descended-keeps, descended-is, appended-keeps, appended-is, charged-keeps, charged-is, fetched-keeps, posted-keeps, posted-is, freed-keeps, popped-keeps, picked-keeps, restored-keeps}
-use Rattle.dfs_worker.proofs.Places.{OpenAt, open-facts, slot-within, total-set_or}
-use Rattle.dfs_worker.proofs.Roots.{advanced-roots, descended-roots, appended-roots, charged-roots, fetched-roots, posted-roots, picked-roots, restored-roots}
-
-use Rattle.dfs_worker.proofs.Asks.{same-number, one-true, did-step, missed-step, barred-step, fits-alone, may-push, may-pick, may-discharge, may-charge, may-post}
+use Rattle.dfs_worker.specs.declared.hand.Hand.TheVariants.{Emptied}
+use Rattle.dfs_worker.specs.declared.turn.Turn.TheVariants.{Did, Idle}
+use Rattle.dfs_worker.specs.Census.{of_message, of_stack, of_rest}
+use Rattle.dfs_worker.specs.Guards.{own_guard, has_top, top_over}
+use Rattle.dfs_worker.specs.Own.{restored}
+use Rattle.dfs_worker.specs.Sound.{IsWorker, IsPacket}
+use Rattle.dfs_worker.specs.State.{State, is_free}
+use Rattle.dfs_worker.specs.Turn.{call_of, left_by, Step, Tried, Holds, Fits, homes_of}
+use Rattle.dfs_worker.proofs.Counts.{restored-count}
+use Rattle.dfs_worker.proofs.Facts.{free-hand}
+use Rattle.dfs_worker.proofs.Holdings.{holds-by, fits-after, fits-with, fits-missed}
+use Rattle.dfs_worker.proofs.Keeps.{restored-keeps}
+use Rattle.dfs_worker.proofs.Roots.{restored-roots}
+use Rattle.dfs_worker.proofs.Asks.{same-number, one-true, did-step, missed-step}
 use Rattle.dfs_worker.proofs.Facts.{Ends}
-use Rattle.dfs_worker.proofs.Keeps.{fetched-is, picked-is, restored-is}
-
-use Rattle.dfs_worker.proofs.Steps.{missed-tried, Same, same-of}
-use Rattle.dfs_worker.proofs.Holdings.{at_end-holds, unlooked-holds, SameHolding-refl}
-use Rattle.dfs_worker.proofs.Facts.{Starts, start-facts, must-none}
+use Rattle.dfs_worker.proofs.Keeps.{restored-is}
+use Rattle.dfs_worker.proofs.Steps.{same-of}
+use Rattle.dfs_worker.proofs.Holdings.{at_end-holds, SameHolding-refl}
+use Rattle.dfs_worker.proofs.Facts.{start-facts, must-none}
 use Rattle.dfs_worker.proofs.Keeps.{claimed-keeps, retired-keeps}
 use Rattle.dfs_worker.proofs.Counts.{claimed-count, retired-count}
 use Rattle.dfs_worker.proofs.Roots.{claimed-roots}
 use Rattle.dfs_worker.specs.Own.{claimed, retired}
-use Rattle.dfs_worker.specs.Turn.{Start, emptied_top, restore_call}
+use Rattle.dfs_worker.specs.Turn.{Start}
 
 -- a chunk is of roots that there are
 chunk-within : {F : Type 0} (agrees : F → ℕ → Holding → Type 0) (shape : F → Extents) (roots : F → ℕ → ℕ) (tree : Tree) (v : State) (f : F) (first end : ℕ) →
@@ -80,12 +62,12 @@ claim-tried agrees done excused shape roots tree v v' f f' w first end h own sam
     record {
       answered = inl (own, inl (first, (end, (ap event.Claim same, is, r.made))));
       fits = subst (λ u. Fits agrees shape roots tree u f') (sym is)
-        (fits-after agrees done shape roots tree v (claimed tree first end v) f f' ToClaim (Roots first end) h r (h.holds.enrolled ∙ at.enrolled)
+          (fits-after agrees done shape roots tree v (claimed tree first end v) f f' ToClaim (Roots first end) h r (h.holds.enrolled ∙ at.enrolled)
           (claimed-keeps tree v first end h.worker own) (record { number = refl; machine = refl; shape = refl })
           (claimed-roots (tree.roots v.machine) tree v first end h.within within)
           (holds-by v (claimed tree first end v) h.holding (holds_after ToClaim (Roots first end) h.holding) (λ _. 0) (λ _. 0)
-            (λ census. let e = claimed-count census tree v first end in omega arith) h.holds.enrolled refl refl (λ _. refl)
-            (λ i j. omega arith) (λ i j. omega arith) (λ i. omega arith) h.holds));
+          (λ census. let e = claimed-count census tree v first end in omega arith) h.holds.enrolled refl refl (λ _. refl)
+          (λ i j. omega arith) (λ i j. omega arith) (λ i. omega arith) h.holds));
     }
 
 -- the end was seen: the worker may retire
@@ -112,11 +94,11 @@ retire-tried agrees done excused shape roots tree v v' f g f' w h own same misse
     record {
       answered = inl (own, inr (g, (ap event.Retire same, is, m.allowed, r.made)));
       fits = subst (λ u. Fits agrees shape roots tree u f') (sym is)
-        (fits-with agrees shape roots tree v (retired v) f f' y h
+          (fits-with agrees shape roots tree v (retired v) f f' y h
           (record { same_shape = r.same.same_shape ∙ m.same.same_shape; same_roots = λ k. r.same.same_roots k ∙ m.same.same_roots k })
           (retired-keeps v h.worker own) (record { number = refl; machine = refl; shape = refl }) h.within
           (holds-by v (retired v) x y (λ _. 0) (λ _. 0) (λ census. let e = retired-count census v in omega arith) refl refl refl (λ _. refl)
-            (λ i j. omega arith) (λ i j. omega arith) (λ i. omega arith) held)
+          (λ i j. omega arith) (λ i j. omega arith) (λ i. omega arith) held)
           (r.holds x y (m.holds h.holding x h.agreed (SameHolding-refl x)) (h.holds.enrolled ∙ at.enrolled, refl) (SameHolding-refl y)));
     }
 
@@ -183,11 +165,11 @@ restore-tried agrees done excused shape roots tree v u v' f f' w frame message n
     let s = same-of v (restored v) _ (restored-is v frame u.stack message next at) (record { self = record { number = refl; machine = refl; shape = refl }; enrolled = refl; marks = refl }) in
     did-step agrees done excused shape roots tree v v' f f' (event.Restore v.number) (event.Restore w) Nothing (ap event.Restore same) own (restored-explicit v u v' frame message next at taken is) (rw call r.made)
     (subst (λ t. Fits agrees shape roots tree t f') (sym (restored-explicit v u v' frame message next at taken is))
-      (fits-after agrees done shape roots tree v (restored v) f f' (ToRestore b) Nothing h r (may-restore v h.holding frame u.stack message next h.worker h.holds at)
-        (restored-keeps v h.worker own) s.self (restored-roots (tree.roots v.machine) v h.within)
-        (holds-by v (restored v) h.holding (holds_after (ToRestore b) Nothing h.holding) (λ census. of_message census.framed message) (λ census. census.emptied message.from message.stage v.machine)
-          (λ census. restored-count census v frame u.stack message next at) (h.holds.enrolled ∙ sym s.enrolled) s.marks refl (λ _. refl)
-          (λ i j. omega arith) (λ i j. omega arith) (λ i. omega arith) h.holds)))
+    (fits-after agrees done shape roots tree v (restored v) f f' (ToRestore b) Nothing h r (may-restore v h.holding frame u.stack message next h.worker h.holds at)
+    (restored-keeps v h.worker own) s.self (restored-roots (tree.roots v.machine) v h.within)
+    (holds-by v (restored v) h.holding (holds_after (ToRestore b) Nothing h.holding) (λ census. of_message census.framed message) (λ census. census.emptied message.from message.stage v.machine)
+    (λ census. restored-count census v frame u.stack message next at) (h.holds.enrolled ∙ sym s.enrolled) s.marks refl (λ _. refl)
+    (λ i j. omega arith) (λ i j. omega arith) (λ i. omega arith) h.holds)))
 
 -- what a pool handed back is in its frame again
 emptied-keeps : (v : State) (frame : Frame) (frames : List Frame) (message : Message) (next : ℕ) → IsWorker v → Ends v frame frames message next →
@@ -197,16 +179,26 @@ emptied-keeps v frame frames message next h at =
     let stands = rw at.rest at s.0.stands in
     let p = stands.packet in
     record {
-      shape = h.shape; machine = h.machine;
-      stack = (record {
-        stage = s.0.stage; wait = s.0.wait;
-        stands = record {
-          above = stands.above; same_stage = stands.same_stage; here = stands.here;
-          packet = record { from = p.from; some_stage = p.some_stage; stage = p.stage; to = p.to; home = p.home; size = p.size; within = omega arith };
-          through = record { ahead = λ more. absurd (cc); done = λ _. omega arith; settled = stands.through.settled };
-        };
-      }, s.1);
-      slots = h.slots; hand = rw at.hand tt; mark_stages = h.mark_stages; mark_machines = h.mark_machines;
+      shape = h.shape;
+      machine = h.machine;
+      stack = (
+        record {
+          stage = s.0.stage;
+          wait = s.0.wait;
+          stands = record {
+            above = stands.above;
+            same_stage = stands.same_stage;
+            here = stands.here;
+            packet = record { from = p.from; some_stage = p.some_stage; stage = p.stage; to = p.to; home = p.home; size = p.size; within = omega arith };
+            through = record { ahead = λ more. absurd (cc); done = λ _. omega arith; settled = stands.through.settled };
+          };
+        },
+        s.1,
+      );
+      slots = h.slots;
+      hand = rw at.hand tt;
+      mark_stages = h.mark_stages;
+      mark_machines = h.mark_machines;
     }
 
 emptied-explicit : (v u v' : State) (frame : Frame) (message : Message) (next : ℕ) → Ends v frame u.stack message next → u ≡ record v { stack = u.stack } →
@@ -232,17 +224,17 @@ restore-missed agrees done excused shape roots tree v u v' f f' w frame put mess
     let m = subst (λ c. Missed agrees excused shape roots unlooked f v.number (ToRestore c) f') empty (subst (λ n. Missed agrees excused shape roots unlooked f n (ToRestore buffer) f') same on.1) in
     let call : call_of (event.Restore v.number) v ≡ Some (ToRestore b) = rw (st, rest_is) refl in
     let top : put ≡ record frame { rest = rest.Items (record message { items = b }) next true } =
-        put_is ∙ ap (λ c. record frame { rest = rest.Items (record message { items = c }) next over }) (on.0 ∙ empty)
-        ∙ ap (λ o. record frame { rest = rest.Items (record message { items = b }) next o }) over_is in
+    put_is ∙ ap (λ c. record frame { rest = rest.Items (record message { items = c }) next over }) (on.0 ∙ empty)
+    ∙ ap (λ o. record frame { rest = rest.Items (record message { items = b }) next o }) over_is in
     let is' = is ∙ ap (λ t. record u { stack = t ∷ u.stack }) top in
     let explicit = emptied-explicit v u v' frame message next at taken is' in
     let e = record v { stack = record frame { rest = rest.Items (record message { items = b }) next true } ∷ u.stack } in
     let y = unlooked h.holding in
     missed-step agrees done excused shape roots tree v v' f f' (event.Restore v.number) own (explicit ∙ emptied-left v frame u.stack message next at) (rw call m.allowed)
     (subst (λ t. Fits agrees shape roots tree t f') (sym explicit)
-      (fits-with agrees shape roots tree v (record v { stack = record frame { rest = rest.Items (record message { items = b }) next true } ∷ u.stack }) f f' y h m.same
-        (emptied-keeps v frame u.stack message next h.worker at) (record { number = refl; machine = refl; shape = refl }) (tt, (rw at.stack at h.within).1)
-        (holds-by v (record v { stack = record frame { rest = rest.Items (record message { items = b }) next true } ∷ u.stack }) h.holding y (λ _. 0) (λ _. 0)
-          (λ census. let st' = ap (of_stack census.framed) at.stack in let r = ap (of_rest census.framed) at.rest in omega arith) h.holds.enrolled refl refl (λ _. refl)
-          (λ i j. omega arith) (λ i j. omega arith) (λ i. omega arith) h.holds)
-        (m.holds h.holding y h.agreed (SameHolding-refl y))))
+    (fits-with agrees shape roots tree v (record v { stack = record frame { rest = rest.Items (record message { items = b }) next true } ∷ u.stack }) f f' y h m.same
+    (emptied-keeps v frame u.stack message next h.worker at) (record { number = refl; machine = refl; shape = refl }) (tt, (rw at.stack at h.within).1)
+    (holds-by v (record v { stack = record frame { rest = rest.Items (record message { items = b }) next true } ∷ u.stack }) h.holding y (λ _. 0) (λ _. 0)
+    (λ census. let st' = ap (of_stack census.framed) at.stack in let r = ap (of_rest census.framed) at.rest in omega arith) h.holds.enrolled refl refl (λ _. refl)
+    (λ i j. omega arith) (λ i j. omega arith) (λ i. omega arith) h.holds)
+    (m.holds h.holding y h.agreed (SameHolding-refl y))))

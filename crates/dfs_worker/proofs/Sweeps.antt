@@ -1,13 +1,12 @@
 -- A turn over several tries, one after the other.
-use Rattle.std.proofs.Common.{◌≡◌, ℕ, ◌+◌, ◌-◌, ◌<◌, ◌≤◌, Bool, true, false, List, [], ◌∷◌, ◌++◌, Option, Some, None, refl, sym, ap, ◌∙◌, subst, arith, suc, ◌⊎◌, inl, inr}
-use Rattle.fabric.specs.Account.{Holding, Call, Given}
-use Rattle.adfs_base.specs.Shape.{Extents}
+use Rattle.std.proofs.Common.{◌≡◌, ℕ, ◌+◌, ◌-◌, ◌<◌, ◌≤◌, List, [], ◌∷◌, ◌++◌, refl, subst, arith, suc, inl, inr}
+use Rattle.fabric.specs.Account.{Call, Given}
 use Rattle.match_context.specs.Tree.{Tree}
 use Rattle.dfs_worker.specs.declared.event.Event.TheVariants as event
 use Rattle.dfs_worker.specs.declared.turn.Turn.{Turn}
 use Rattle.dfs_worker.specs.declared.turn.Turn.TheVariants.{Did, Idle, NoMemory}
 use Rattle.dfs_worker.specs.State.{State}
-use Rattle.dfs_worker.specs.Turn.{Try, Step, PostOther, Start, NextMark, NextClose, EndsTurn, PassedTry, IsTurn, pops_from}
+use Rattle.dfs_worker.specs.Turn.{Try, Step, EndsTurn, IsTurn, pops_from}
 
 ended-idle : {F : Type 0} (done : F → ℕ → Call → Given → F → Type 0) (excused : F → ℕ → Call → F → Type 0) (tree : Tree) (v : State) (f : F) (t : Try) (turn : Turn) (v' : State) (f' : F) →
     turn ≡ Idle → EndsTurn done excused tree v f t turn v' f' → ⊥

@@ -1,6 +1,5 @@
-use Rattle.std.proofs.Common.{refl, sym, ap, ◌∙◌, Some, None}
-use Rattle.dfs_worker.proofs.Facts.{start-facts}
-use Rattle.dfs_worker.proofs.Starting.{claim-tried, may-retire, retire-tried, start-missed, chunk-facts}
+use Rattle.std.proofs.Common.{sym}
+use Rattle.dfs_worker.proofs.Starting.{claim-tried, may-retire, retire-tried, start-missed}
 use Rattle.dfs_worker.proofs.Asks.{guard-none}
 use Rattle.dfs_worker.proofs.starts.start.Goals as goal
 
