@@ -9,7 +9,7 @@ use Rattle.match_context.specs.declared.expand.Next.TheVariants.{Child, Row, Ski
 use Rattle.match_context.specs.declared.frame.Frame.{Frame}
 use Rattle.match_context.specs.declared.frame.Rest.{Rest}
 use Rattle.match_context.specs.declared.frame.Rest.TheVariants as rest
-use Rattle.match_context.specs.Tree.{Tree, IsTree, Item, Below, Leaf, Pass, AreItems, answer, after}
+use Rattle.match_context.specs.Tree.{Tree, Item, Below, Leaf, Pass, AreItems, answer, after}
 use Rattle.dfs_worker.specs.declared.event.Event.TheVariants as event
 use Rattle.dfs_worker.specs.Guards.{own_guard}
 use Rattle.dfs_worker.specs.Own.{ended, stepped, onto, answer_at, frames_after, advanced}

@@ -1,16 +1,13 @@
 -- What a worker holds of what is shared, after each call.
-use Rattle.std.proofs.Common.{◌≡◌, ℕ, ◌+◌, ◌-◌, ◌<◌, ◌≤◌, Bool, true, false, cond, ◌&&◌, List, [], ◌∷◌, length, Option, Some, None, refl, sym, ap, ◌∙◌, subst, arith}
-use Rattle.std.specs.Prelude.{nat_lt, nat_eq, ◌/◌}
-use Rattle.std.proofs.lemmas.Bool.Decides.{nat_tests}
+use Rattle.std.proofs.Common.{◌≡◌, ℕ, ◌+◌, ◌-◌, refl, sym, ap, ◌∙◌, subst, arith}
 use Rattle.adfs_base.specs.Shape.{Extents}
 use Rattle.adfs_base.specs.declared.step_answers.Word.{Word}
-use Rattle.fabric.specs.Account.{Holding, SameHolding, Call, ToClaim, ToRetire, ToCharge, ToFetch, ToPost, ToPush, ToPop, ToPick, ToRestore, ToDischarge, ToMark, ToClose, ToLook, Given, Nothing, Roots, Taken, Came, Seen, Allows, holds_after, unlooked, at_end, one}
+use Rattle.fabric.specs.Account.{Holding, SameHolding, Call, Given, Allows, holds_after, unlooked, at_end}
 use Rattle.fabric.specs.Fabric.{MayCall, SameExtent, Ready, Missed}
 use Rattle.match_context.specs.Tree.{Tree}
-use Rattle.match_context.specs.declared.message.Message.{Message}
 use Rattle.stage_termination.specs.Marks.{Marks, is_marked}
 use Rattle.dfs_worker.specs.Census.{Census, count}
-use Rattle.dfs_worker.specs.Sound.{IsWorker, WithinRoots, TreeFits}
+use Rattle.dfs_worker.specs.Sound.{IsWorker, WithinRoots}
 use Rattle.dfs_worker.specs.State.{State}
 use Rattle.dfs_worker.specs.Turn.{own_credits, works_of, homes_of, Holds, Fits}
 

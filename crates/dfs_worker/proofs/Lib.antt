@@ -8,5 +8,7 @@ pub mod Roots
 pub mod Counts
 pub mod Weights
 pub mod Holdings
-pub mod Tries
+pub mod Asks
 pub mod Steps
+pub mod Starting
+pub mod Sweeps

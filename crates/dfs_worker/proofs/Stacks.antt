@@ -69,3 +69,13 @@ pub popped-push : (worker : State) (stack : Tower) (stages : ℕ) (message : Mes
 popped-push worker stack stages message h same_stack same_stages room hand =
     let low = popped-room worker message h hand in
     rw same_stack (omega arith)
+
+-- what was taken off may be put back
+pub taken-room : (worker left : State) (frame : Frame) → IsWorker worker → worker.stack ≡ frame ∷ left.stack → left ≡ record worker { stack = left.stack } →
+    length left.stack < left.shape.stages
+taken-room worker left frame h st is =
+    let fits = stack-fits worker.shape worker.enrolled worker.machine worker.stack h.stack in
+    let low = top-low worker.shape worker.enrolled worker.machine worker.stack h.stack in
+    let one_more : length worker.stack ≡ suc (length left.stack) = ap length st in
+    let same : left.shape.stages ≡ worker.shape.stages = ap (λ (v : State). v.shape.stages) is in
+    omega arith

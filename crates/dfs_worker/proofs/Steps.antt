@@ -1,49 +1,37 @@
 -- What each step of a turn leaves, when its call was ready.
-use Rattle.std.proofs.Common.{◌≡◌, ℕ, ◌+◌, ◌-◌, ◌<◌, ◌≤◌, Bool, true, false, cond, not, ◌&&◌, List, [], ◌∷◌, length, get_or, Option, Some, None, is_some, refl, sym, ap, ◌∙◌, subst, arith, ◌⊎◌, inl, inr}
-use Rattle.std.specs.Prelude.{nat_lt, nat_eq}
-use Rattle.std.proofs.lemmas.Bool.Decides.{nat_tests}
+use Rattle.std.proofs.Common.{◌≡◌, ℕ, ◌<◌, ◌&&◌, [], ◌∷◌, Some, None, refl, sym, ap, ◌∙◌, subst, arith, inl}
+use Rattle.std.specs.Prelude.{nat_eq}
 use Rattle.std.proofs.lemmas.Nat.{same_from_place}
 use Rattle.adfs_base.specs.Shape.{Extents}
-use Rattle.fabric.specs.Account.{Holding, SameHolding, Call, ToClaim, ToRetire, ToCharge, ToFetch, ToPost, ToPush, ToPop, ToPick, ToRestore, ToDischarge, ToMark, ToClose, ToLook, Given, Nothing, Roots, Taken, Came, Seen, Allows, holds_after, unlooked, at_end, IsLater}
+use Rattle.fabric.specs.Account.{Holding, Call, ToCharge, ToFetch, ToPost, ToPush, ToPop, ToPick, ToDischarge, Given, Nothing, Taken, Came, holds_after, unlooked}
 use Rattle.fabric.specs.Calls.{IsMessageOf, empty_buffer}
-use Rattle.fabric.specs.Fabric.{MayCall, SameExtent, Ready, Missed, machine_in, OnCharge, OnPick}
-use Rattle.match_context.specs.Bags.{total}
+use Rattle.fabric.specs.Fabric.{Ready, Missed, machine_in, OnCharge, OnPick}
 use Rattle.match_context.specs.Batch.{Batch}
 use Rattle.match_context.specs.Tree.{Tree}
-use Rattle.match_context.specs.declared.context.Context.{Context}
-use Rattle.match_context.specs.declared.frame.Frame.{Frame}
-use Rattle.match_context.specs.declared.frame.Rest.{Rest}
-use Rattle.match_context.specs.declared.frame.Rest.TheVariants as rest
 use Rattle.match_context.specs.declared.message.Message.{Message}
 use Rattle.dfs_worker.specs.declared.event.Event.{Event}
 use Rattle.dfs_worker.specs.declared.event.Event.TheVariants as event
-use Rattle.dfs_worker.specs.declared.guard.Guard.{Guard}
 use Rattle.dfs_worker.specs.declared.guard.Guard.TheVariants as guard
-use Rattle.dfs_worker.specs.declared.hand.Hand.{Hand}
-use Rattle.dfs_worker.specs.declared.hand.Hand.TheVariants.{Free, Charged, Posted, Popped, Emptied}
-use Rattle.dfs_worker.specs.declared.turn.Turn.{Turn}
+use Rattle.dfs_worker.specs.declared.hand.Hand.TheVariants.{Free, Posted, Popped, Emptied}
 use Rattle.dfs_worker.specs.declared.turn.Turn.TheVariants.{Did, Idle, NoMemory}
-use Rattle.dfs_worker.specs.Census.{Census, count, one, of_slot, of_message, of_hand, of_stack}
-use Rattle.dfs_worker.specs.Guards.{own_guard, is_charged, is_posted, is_popped, is_emptied}
-use Rattle.dfs_worker.specs.Own.{advanced, AddsRow, descended, appended, charged, fetched, posted, freed, popped, picked, restored}
+use Rattle.dfs_worker.specs.Census.{Census, one, of_message, of_hand}
+use Rattle.dfs_worker.specs.Guards.{own_guard}
+use Rattle.dfs_worker.specs.Own.{AddsRow, descended, appended, charged, fetched, posted, freed, popped, picked}
 use Rattle.dfs_worker.specs.Slots.{Slots, slot_of, open_at, is_open}
-use Rattle.dfs_worker.specs.Sound.{StandsOn, IsStack, IsHand, IsWorker, WithinRoots, TreeFits}
-use Rattle.dfs_worker.specs.State.{State, is_free, next_stage, waiting, waiting_by}
+use Rattle.dfs_worker.specs.State.{State, waiting}
 use Rattle.adfs_base.specs.declared.step_answers.Charge.{Charge}
 use Rattle.adfs_base.specs.declared.step_answers.Charge.TheVariants as charge
 use Rattle.adfs_base.specs.declared.step_answers.Pick.{Pick}
 use Rattle.adfs_base.specs.declared.step_answers.Pick.TheVariants as pick
-use Rattle.dfs_worker.specs.Turn.{call_of, push_call, pick_call, own_part, left_by, MissedCall, Made, Step, DidStep, IsTurn, Tried, Holds, Fits, own_credits, works_of, homes_of}
-use Rattle.dfs_worker.proofs.Advances.{advanced-keeps}
-use Rattle.dfs_worker.proofs.Counts.{advanced-count, descended-count, appended-count, charged-count, fetched-count, posted-count, freed-count, popped-count, picked-count, restored-count}
-use Rattle.dfs_worker.proofs.Facts.{free-hand, child-facts, charged-facts, charges-facts, post-facts, push-facts, pop-facts, pick-facts, discharge-facts, restore-facts, waiting-is}
-use Rattle.dfs_worker.proofs.Holdings.{may-call, holds-by, SameSelf, fits-after, fits-with, fits-missed}
-use Rattle.dfs_worker.proofs.Keeps.{IsEmpty, descended-keeps, descended-is, appended-keeps, appended-is, charged-keeps, charged-is, fetched-keeps, posted-keeps, posted-is, freed-keeps, popped-keeps, picked-keeps, restored-keeps}
-use Rattle.dfs_worker.proofs.Places.{OpenAt, open-facts, slot-within, total-set_or}
-use Rattle.dfs_worker.proofs.Roots.{advanced-roots, descended-roots, appended-roots, charged-roots, fetched-roots, posted-roots, picked-roots, restored-roots}
-use Rattle.dfs_worker.proofs.Tries.{did-step, missed-step, barred-step, fits-alone, may-push, may-pick, may-discharge, may-charge, may-post}
-use Rattle.dfs_worker.proofs.Facts.{Ends}
-use Rattle.dfs_worker.proofs.Keeps.{fetched-is, picked-is, restored-is}
+use Rattle.dfs_worker.specs.Turn.{call_of, push_call, left_by, Step, Tried, Fits, own_credits}
+use Rattle.dfs_worker.proofs.Counts.{descended-count, appended-count, charged-count, fetched-count, posted-count, freed-count, popped-count, picked-count}
+use Rattle.dfs_worker.proofs.Facts.{child-facts, charged-facts, charges-facts, post-facts, pop-facts}
+use Rattle.dfs_worker.proofs.Holdings.{holds-by, SameSelf, fits-after, fits-missed}
+use Rattle.dfs_worker.proofs.Keeps.{IsEmpty, descended-keeps, descended-is, appended-keeps, appended-is, charged-keeps, charged-is, fetched-keeps, posted-keeps, posted-is, freed-keeps, popped-keeps, picked-keeps}
+use Rattle.dfs_worker.proofs.Places.{open-facts}
+use Rattle.dfs_worker.proofs.Roots.{descended-roots, appended-roots, charged-roots, fetched-roots, posted-roots, picked-roots}
+use Rattle.dfs_worker.proofs.Asks.{did-step, missed-step, fits-alone, may-push, may-pick, may-discharge, may-charge, may-post}
+use Rattle.dfs_worker.proofs.Keeps.{fetched-is, picked-is}
 
 -- ---- what no step without marks changes
 pub record Same (v v' : State) : Type 0 where
@@ -54,7 +42,7 @@ pub record Same (v v' : State) : Type 0 where
 same-refl : (v : State) → Same v v
 same-refl v = record { self = record { number = refl; machine = refl; shape = refl }; enrolled = refl; marks = refl }
 
-same-of : (v u w : State) → u ≡ w → Same v w → Same v u
+pub same-of : (v u w : State) → u ≡ w → Same v w → Same v u
 same-of v u w e same = subst (Same v) (sym e) same
 
 -- ---- what a call gives

@@ -1,5 +1,5 @@
 -- What a turn tries, in which order, and what it answers.
-use Rattle.std.specs.Prelude.{◌≤◌, ◌≡◌, ℕ, ◌+◌, ◌-◌, ◌%◌, ◌^◌, ◌<◌, ◌/◌, ◌⊎◌, Bool, true, false, not, ◌&&◌, ◌==◌, nat_lt, min, max, if◌then◌else◌, List, [], ◌∷◌, ◌++◌, length, slice_get, take, drop, map, filter, reverse, Option, Some, None, is_some, zero, suc}
+use Rattle.std.specs.Prelude.{◌≤◌, ◌≡◌, ℕ, ◌+◌, ◌-◌, ◌%◌, ◌^◌, ◌<◌, ◌/◌, ◌⊎◌, Bool, true, false, not, ◌&&◌, ◌==◌, min, max, if◌then◌else◌, List, [], ◌∷◌, ◌++◌, length, slice_get, take, drop, Option, Some, None, zero, suc}
 use Rattle.adfs_base.specs.Shape.{Extents}
 use Rattle.adfs_base.specs.declared.step_answers.Word.{Word}
 use Rattle.adfs_base.specs.declared.step_answers.Word.TheVariants.{Enrolled, Used}
@@ -10,11 +10,9 @@ use Rattle.bfs_budget.specs.declared.tries.Attempt.TheVariants as attempt
 use Rattle.bfs_budget.specs.declared.tries.HandState.{HandState}
 use Rattle.fabric.specs.Account.{Holding, Call, ToClaim, ToRetire, ToCharge, ToFetch, ToPost, ToPush, ToPop, ToPick, ToRestore, ToDischarge, ToMark, ToClose, ToLook, Given, Nothing, Roots, Taken, Came, Seen}
 use Rattle.fabric.specs.Calls.{empty_buffer}
-use Rattle.match_context.specs.declared.context.Context.{Context}
 use Rattle.match_context.specs.declared.frame.Frame.{Frame}
 use Rattle.match_context.specs.declared.frame.Rest.{Rest}
 use Rattle.match_context.specs.declared.frame.Rest.TheVariants as rest
-use Rattle.match_context.specs.declared.message.Message.{Message}
 use Rattle.match_context.specs.Tree.{Tree}
 use Rattle.stage_termination.specs.Marks.{is_marked, is_ready, next_word_of}
 use Rattle.dfs_worker.specs.declared.event.Event.{Event}
@@ -23,12 +21,12 @@ use Rattle.dfs_worker.specs.declared.hand.Hand.{Hand}
 use Rattle.dfs_worker.specs.declared.hand.Hand.TheVariants.{Free, Charged, Posted, Popped, Emptied}
 use Rattle.dfs_worker.specs.declared.turn.Turn.{Turn}
 use Rattle.dfs_worker.specs.declared.turn.Turn.TheVariants.{Did, Idle, NoMemory}
-use Rattle.dfs_worker.specs.Census.{Census, count, one, buffers_of}
+use Rattle.dfs_worker.specs.Census.{Census, count, one}
 use Rattle.dfs_worker.specs.Guards.{own_guard, top_over, child_test}
 use Rattle.dfs_worker.specs.Own.{claimed, retired, advanced, AddsRow, descended, appended, charged, fetched, posted, freed, popped, picked, restored, marked, moved}
 use Rattle.dfs_worker.specs.Slots.{Slots, is_open, has_room}
 use Rattle.dfs_worker.specs.Sound.{IsWorker, WithinRoots, TreeFits}
-use Rattle.dfs_worker.specs.State.{State, is_free, next_stage, waiting}
+use Rattle.dfs_worker.specs.State.{State, next_stage, waiting}
 
 -- ---- the event's call, and the worker's part with what the call gave
 abbrev pub charge_call : Option (ℕ × ℕ) → Option Call
@@ -163,8 +161,8 @@ tries_of w stages stack hand attempt.PostOthers = PostOther ∷ []
 tries_of w stages stack hand attempt.Pop = pops_from w (lowest_pop stack) (stages - lowest_pop stack)
 tries_of w stages stack hand attempt.Claim = Start ∷ []
 tries_of w stages stack hand attempt.Retire = []
-tries_of w stages stack hand attempt.Mark = NextMark ∷ []
-tries_of w stages stack hand attempt.Close = NextClose ∷ []
+tries_of w stages stack hand attempt.Mark = []
+tries_of w stages stack hand attempt.Close = []
 
 abbrev pub all_tries : ℕ → ℕ → List Frame → Hand → List Attempt → List Try
 all_tries w stages stack hand [] = []
@@ -355,7 +353,8 @@ NoOther v = (k n : ℕ) → 0 < k → k < v.shape.stages → n < v.shape.machine
 
 abbrev pub PassedStart : {F : Type 0} → (F → ℕ → Call → F → Type 0) → State → F → F → Type 0
 PassedStart excused v f f' =
-    ((own_guard (event.Claim v.number) v ≡ None → ⊥) × (f' ≡ f)) ⊎ ((own_guard (event.Claim v.number) v ≡ None) × excused f v.number ToClaim f')
+    ((own_guard (event.Claim v.number) v ≡ None → ⊥) × (f' ≡ f))
+    ⊎ ((own_guard (event.Claim v.number) v ≡ None) × excused f v.number ToClaim f' × excused f v.number ToRetire f')
 
 abbrev pub MissedMark : {F : Type 0} → (F → ℕ → Call → F → Type 0) → F → ℕ → Option Word → F → Type 0
 MissedMark excused f w None f' = f' ≡ f

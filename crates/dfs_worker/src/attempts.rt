@@ -12,7 +12,7 @@ use fabric::Fabric;
 use match_context::Expand;
 
 /// The buffer for which a credit is in hand.
-fn fetch<F: Fabric, X: Expand>(worker: &mut Worker, fabric: &mut F, _x: &X) -> Turn
+pub fn fetch<F: Fabric, X: Expand>(worker: &mut Worker, fabric: &mut F, _x: &X) -> Turn
     requires fits { Fits F.agrees F.shape F.roots (X.tree _x.now) worker.old fabric.old }
     requires charged { is_charged worker.old.hand ≡ true }
     ensures { Tried F.agrees F.done F.excused F.shape F.roots (X.tree _x.now) worker.old fabric.old (Step (Event.Fetch worker.old.number) ∷ []) result worker.new fabric.new }
@@ -28,7 +28,7 @@ fn fetch<F: Fabric, X: Expand>(worker: &mut Worker, fabric: &mut F, _x: &X) -> T
 }
 
 /// The message in hand goes into its inbox.
-fn push<F: Fabric, X: Expand>(worker: &mut Worker, fabric: &mut F, _x: &X) -> Turn
+pub fn push<F: Fabric, X: Expand>(worker: &mut Worker, fabric: &mut F, _x: &X) -> Turn
     requires fits { Fits F.agrees F.shape F.roots (X.tree _x.now) worker.old fabric.old }
     requires posted { is_posted worker.old.hand ≡ true }
     ensures { Tried F.agrees F.done F.excused F.shape F.roots (X.tree _x.now) worker.old fabric.old (Step (Event.Push worker.old.number) ∷ []) result worker.new fabric.new }
@@ -50,7 +50,7 @@ fn push<F: Fabric, X: Expand>(worker: &mut Worker, fabric: &mut F, _x: &X) -> Tu
 }
 
 /// The message in hand becomes the top.
-fn pick<F: Fabric, X: Expand>(worker: &mut Worker, fabric: &mut F, _x: &X) -> Turn
+pub fn pick<F: Fabric, X: Expand>(worker: &mut Worker, fabric: &mut F, _x: &X) -> Turn
     requires fits { Fits F.agrees F.shape F.roots (X.tree _x.now) worker.old fabric.old }
     requires popped { is_popped worker.old.hand ≡ true }
     ensures { Tried F.agrees F.done F.excused F.shape F.roots (X.tree _x.now) worker.old fabric.old (Step (Event.Pick worker.old.number) ∷ []) result worker.new fabric.new }
@@ -69,7 +69,7 @@ fn pick<F: Fabric, X: Expand>(worker: &mut Worker, fabric: &mut F, _x: &X) -> Tu
 }
 
 /// The credit in hand goes back.
-fn discharge<F: Fabric, X: Expand>(worker: &mut Worker, fabric: &mut F, _x: &X) -> Turn
+pub fn discharge<F: Fabric, X: Expand>(worker: &mut Worker, fabric: &mut F, _x: &X) -> Turn
     requires fits { Fits F.agrees F.shape F.roots (X.tree _x.now) worker.old fabric.old }
     requires emptied { is_emptied worker.old.hand ≡ true }
     ensures { Tried F.agrees F.done F.excused F.shape F.roots (X.tree _x.now) worker.old fabric.old (Step (Event.Discharge worker.old.number) ∷ []) result worker.new fabric.new }
@@ -98,7 +98,7 @@ pub fn advance<F: Fabric, X: Expand>(worker: &mut Worker, fabric: &F, x: &X) -> 
 }
 
 /// A credit for a buffer for the waiting child.
-fn charge<F: Fabric, X: Expand>(worker: &mut Worker, fabric: &mut F, _x: &X) -> Turn
+pub fn charge<F: Fabric, X: Expand>(worker: &mut Worker, fabric: &mut F, _x: &X) -> Turn
     requires fits { Fits F.agrees F.shape F.roots (X.tree _x.now) worker.old fabric.old }
     ensures tried { Tried F.agrees F.done F.excused F.shape F.roots (X.tree _x.now) worker.old fabric.old (Step (Event.Charge worker.old.number) ∷ []) result worker.new fabric.new }
     ensures kept { result ≡ Turn.Idle → worker.new ≡ worker.old }
@@ -120,7 +120,7 @@ fn charge<F: Fabric, X: Expand>(worker: &mut Worker, fabric: &mut F, _x: &X) -> 
 }
 
 /// The waiting child becomes the top, or goes into the buffer that is open for it.
-fn descend<F: Fabric, X: Expand>(worker: &mut Worker, fabric: &F, _x: &X) -> Turn
+pub fn descend<F: Fabric, X: Expand>(worker: &mut Worker, fabric: &F, _x: &X) -> Turn
     requires fits { Fits F.agrees F.shape F.roots (X.tree _x.now) worker.old fabric.now }
     ensures tried { Tried F.agrees F.done F.excused F.shape F.roots (X.tree _x.now) worker.old fabric.now (Step (Event.Descend worker.old.number) ∷ []) result worker.new fabric.now }
     ensures kept { result ≡ Turn.Idle → worker.new ≡ worker.old }
@@ -134,7 +134,7 @@ fn descend<F: Fabric, X: Expand>(worker: &mut Worker, fabric: &F, _x: &X) -> Tur
     Turn::Did(Event::Descend { w })
 }
 
-fn append<F: Fabric, X: Expand>(worker: &mut Worker, fabric: &F, _x: &X) -> Turn
+pub fn append<F: Fabric, X: Expand>(worker: &mut Worker, fabric: &F, _x: &X) -> Turn
     requires fits { Fits F.agrees F.shape F.roots (X.tree _x.now) worker.old fabric.now }
     ensures tried { Tried F.agrees F.done F.excused F.shape F.roots (X.tree _x.now) worker.old fabric.now (Step (Event.Append worker.old.number) ∷ []) result worker.new fabric.now }
     ensures kept { result ≡ Turn.Idle → worker.new ≡ worker.old }
@@ -149,7 +149,7 @@ fn append<F: Fabric, X: Expand>(worker: &mut Worker, fabric: &F, _x: &X) -> Turn
 }
 
 /// The message that is open there comes into the hand.
-fn post<F: Fabric, X: Expand>(
+pub fn post<F: Fabric, X: Expand>(
     worker: &mut Worker,
     fabric: &mut F,
     _x: &X,
@@ -171,7 +171,7 @@ fn post<F: Fabric, X: Expand>(
 }
 
 /// The first message of an inbox comes into the hand.
-fn pop<F: Fabric, X: Expand>(worker: &mut Worker, fabric: &mut F, _x: &X, stage: u32) -> Turn
+pub fn pop<F: Fabric, X: Expand>(worker: &mut Worker, fabric: &mut F, _x: &X, stage: u32) -> Turn
     requires fits { Fits F.agrees F.shape F.roots (X.tree _x.now) worker.old fabric.old }
     requires some_stage { 0 < stage }
     requires stage_in { stage < worker.old.shape.stages }

@@ -97,6 +97,20 @@ impl Worker {
         self.machine
     }
 
+    /// How many machines there are.
+    pub fn machines(&self) -> u32
+        ensures { result ≡ self.now.shape.machines }
+    {
+        self.shape.machines()
+    }
+
+    /// How many stages there are.
+    pub fn stages(&self) -> u32
+        ensures { result ≡ self.now.shape.stages }
+    {
+        self.shape.stages()
+    }
+
     /// The frames of its stack, the top last.
     pub fn stack(&self) -> &[Frame]
         ensures { reverse result.now ≡ self.now.stack }

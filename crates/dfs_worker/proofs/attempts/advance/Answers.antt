@@ -1,8 +1,5 @@
-use Rattle.std.proofs.Common.{refl, sym, ap, ◌∙◌, Some, None}
-use Rattle.dfs_worker.specs.declared.event.Event.TheVariants as event
-use Rattle.fabric.specs.Account.{ToFetch, ToPush, ToPick, ToCharge, ToPop, ToPost, ToDischarge}
 use Rattle.dfs_worker.proofs.Steps.{no-memory}
-use Rattle.dfs_worker.proofs.Tries.{advance-tried}
+use Rattle.dfs_worker.proofs.Asks.{advance-tried}
 use Rattle.dfs_worker.proofs.attempts.advance.Goals as goal
 
 pub returns-in-Ok : goal.returns-in-Ok

@@ -1,8 +1,8 @@
-use Rattle.std.proofs.Common.{refl, sym, ap, ◌∙◌, Some, None}
+use Rattle.std.proofs.Common.{refl, sym, ap}
 use Rattle.dfs_worker.specs.declared.event.Event.TheVariants as event
-use Rattle.fabric.specs.Account.{ToFetch, ToPush, ToPick, ToCharge, ToPop, ToPost, ToDischarge}
+use Rattle.fabric.specs.Account.{ToCharge}
 use Rattle.dfs_worker.proofs.Steps.{charge-tried, missed-tried, charge-missed}
-use Rattle.dfs_worker.proofs.Tries.{may-charge, guard-none}
+use Rattle.dfs_worker.proofs.Asks.{may-charge, guard-none}
 use Rattle.dfs_worker.proofs.Holdings.{may-call}
 use Rattle.dfs_worker.specs.Turn.{charge_call}
 use Rattle.dfs_worker.proofs.attempts.charge.Goals as goal

@@ -1,8 +1,6 @@
-use Rattle.std.proofs.Common.{refl, sym, ap, ◌∙◌, Some, None}
-use Rattle.dfs_worker.specs.declared.event.Event.TheVariants as event
-use Rattle.fabric.specs.Account.{ToFetch, ToPush, ToPick, ToCharge, ToPop, ToPost, ToDischarge}
+use Rattle.std.proofs.Common.{sym}
 use Rattle.dfs_worker.proofs.Steps.{descend-tried}
-use Rattle.dfs_worker.proofs.Tries.{guard-none}
+use Rattle.dfs_worker.proofs.Asks.{guard-none}
 use Rattle.dfs_worker.proofs.attempts.descend.Goals as goal
 
 pub returns-clause-tried : goal.returns-clause-tried

@@ -1,6 +1,4 @@
-use Rattle.std.proofs.Common.{refl, sym, ap, ◌∙◌, Some, None}
-use Rattle.dfs_worker.specs.declared.event.Event.TheVariants as event
-use Rattle.fabric.specs.Account.{ToFetch, ToPush, ToPick, ToCharge, ToPop, ToPost, ToDischarge}
+use Rattle.std.proofs.Common.{sym, ◌∙◌}
 use Rattle.dfs_worker.proofs.Steps.{discharge-tried}
 use Rattle.dfs_worker.proofs.attempts.discharge.Goals as goal
 

@@ -1,6 +1,6 @@
-use Rattle.std.proofs.Common.{refl, sym, ap, ◌∙◌, Some, None}
+use Rattle.std.proofs.Common.{refl}
 use Rattle.dfs_worker.specs.declared.event.Event.TheVariants as event
-use Rattle.fabric.specs.Account.{ToFetch, ToPush, ToPick, ToCharge, ToPop, ToPost, ToDischarge}
+use Rattle.fabric.specs.Account.{ToFetch}
 use Rattle.dfs_worker.proofs.Steps.{fetch-tried, missed-tried}
 use Rattle.dfs_worker.proofs.attempts.fetch.Goals as goal
 

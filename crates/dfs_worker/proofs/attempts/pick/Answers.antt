@@ -1,6 +1,6 @@
-use Rattle.std.proofs.Common.{refl, sym, ap, ◌∙◌, Some, None}
+use Rattle.std.proofs.Common.{refl, sym, ap, ◌∙◌}
 use Rattle.dfs_worker.specs.declared.event.Event.TheVariants as event
-use Rattle.fabric.specs.Account.{ToFetch, ToPush, ToPick, ToCharge, ToPop, ToPost, ToDischarge}
+use Rattle.fabric.specs.Account.{ToPick}
 use Rattle.dfs_worker.proofs.Steps.{pick-tried, missed-tried, pick-missed}
 use Rattle.dfs_worker.specs.Turn.{pick_call}
 use Rattle.dfs_worker.proofs.attempts.pick.Goals as goal

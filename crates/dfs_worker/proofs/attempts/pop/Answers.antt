@@ -1,8 +1,8 @@
-use Rattle.std.proofs.Common.{refl, sym, ap, ◌∙◌, Some, None}
+use Rattle.std.proofs.Common.{refl, sym}
 use Rattle.dfs_worker.specs.declared.event.Event.TheVariants as event
-use Rattle.fabric.specs.Account.{ToFetch, ToPush, ToPick, ToCharge, ToPop, ToPost, ToDischarge}
+use Rattle.fabric.specs.Account.{ToPop}
 use Rattle.dfs_worker.proofs.Steps.{pop-tried, missed-tried}
-use Rattle.dfs_worker.proofs.Tries.{guard-none}
+use Rattle.dfs_worker.proofs.Asks.{guard-none}
 use Rattle.dfs_worker.proofs.attempts.pop.Goals as goal
 
 pub returns-in-Some-clause-tried : goal.returns-in-Some-clause-tried

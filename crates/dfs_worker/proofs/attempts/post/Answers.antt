@@ -1,8 +1,7 @@
-use Rattle.std.proofs.Common.{refl, sym, ap, ◌∙◌, Some, None}
-use Rattle.dfs_worker.specs.declared.event.Event.TheVariants as event
-use Rattle.fabric.specs.Account.{ToFetch, ToPush, ToPick, ToCharge, ToPop, ToPost, ToDischarge}
+use Rattle.std.proofs.Common.{sym}
+use Rattle.fabric.specs.Account.{ToPost}
 use Rattle.dfs_worker.proofs.Steps.{post-tried}
-use Rattle.dfs_worker.proofs.Tries.{may-post, guard-none}
+use Rattle.dfs_worker.proofs.Asks.{may-post, guard-none}
 use Rattle.dfs_worker.proofs.Facts.{post-facts}
 use Rattle.dfs_worker.proofs.Holdings.{may-call}
 use Rattle.dfs_worker.proofs.attempts.post.Goals as goal

@@ -1,14 +1,10 @@
 -- What each attempt of a turn may ask of the fabric, and what it answers.
-use Rattle.std.proofs.Common.{◌≡◌, ℕ, ◌+◌, ◌-◌, ◌<◌, ◌≤◌, Bool, true, false, cond, not, ◌&&◌, List, [], ◌∷◌, length, get_or, Option, Some, None, is_some, refl, sym, ap, ◌∙◌, subst, arith, ◌⊎◌, inl, inr}
-use Rattle.std.specs.Prelude.{nat_lt, nat_eq}
+use Rattle.std.proofs.Common.{◌≡◌, ℕ, ◌+◌, ◌<◌, ◌≤◌, Bool, true, false, not, ◌&&◌, List, [], ◌∷◌, Option, Some, None, is_some, refl, sym, ap, ◌∙◌, subst, arith, inl, inr}
+use Rattle.std.specs.Prelude.{nat_eq}
 use Rattle.std.proofs.lemmas.Bool.Decides.{nat_tests}
 use Rattle.std.proofs.lemmas.Nat.{same_from_place}
 use Rattle.adfs_base.specs.Shape.{Extents}
-use Rattle.fabric.specs.Account.{Holding, SameHolding, Call, ToClaim, ToRetire, ToCharge, ToFetch, ToPost, ToPush, ToPop, ToPick, ToRestore, ToDischarge, ToMark, ToClose, ToLook, Given, Nothing, Roots, Taken, Came, Seen, Allows, holds_after, unlooked, at_end, IsLater}
-use Rattle.fabric.specs.Calls.{IsMessageOf, empty_buffer}
-use Rattle.fabric.specs.Fabric.{MayCall, SameExtent, Ready, Missed, machine_in}
-use Rattle.match_context.specs.Bags.{total}
-use Rattle.match_context.specs.Batch.{Batch}
+use Rattle.fabric.specs.Account.{Holding, Call, ToCharge, ToPost, ToPush, ToPick, ToDischarge, Given, Nothing, Allows}
 use Rattle.match_context.specs.Tree.{Tree}
 use Rattle.match_context.specs.declared.context.Context.{Context}
 use Rattle.match_context.specs.declared.frame.Frame.{Frame}
@@ -19,24 +15,21 @@ use Rattle.dfs_worker.specs.declared.event.Event.{Event}
 use Rattle.dfs_worker.specs.declared.event.Event.TheVariants as event
 use Rattle.dfs_worker.specs.declared.guard.Guard.{Guard}
 use Rattle.dfs_worker.specs.declared.guard.Guard.TheVariants as guard
-use Rattle.dfs_worker.specs.declared.hand.Hand.{Hand}
-use Rattle.dfs_worker.specs.declared.hand.Hand.TheVariants.{Free, Charged, Posted, Popped, Emptied}
-use Rattle.dfs_worker.specs.declared.turn.Turn.{Turn}
-use Rattle.dfs_worker.specs.declared.turn.Turn.TheVariants.{Did, Idle, NoMemory}
-use Rattle.dfs_worker.specs.Census.{Census, count, one, of_slot, of_message, of_hand, of_stack}
-use Rattle.dfs_worker.specs.Guards.{own_guard, is_charged, is_posted, is_popped, is_emptied}
-use Rattle.dfs_worker.specs.Own.{advanced, AddsRow, descended, appended, charged, fetched, posted, freed, popped, picked, restored}
-use Rattle.dfs_worker.specs.Slots.{Slots, slot_of, open_at, is_open}
-use Rattle.dfs_worker.specs.Sound.{StandsOn, IsStack, IsHand, IsWorker, WithinRoots, TreeFits}
-use Rattle.dfs_worker.specs.State.{State, is_free, next_stage, waiting, waiting_by}
-use Rattle.dfs_worker.specs.Turn.{call_of, own_part, left_by, MissedCall, Made, Step, DidStep, IsTurn, Tried, Holds, Fits, own_credits, works_of, homes_of}
+use Rattle.dfs_worker.specs.declared.hand.Hand.TheVariants.{Posted, Popped, Emptied}
+use Rattle.dfs_worker.specs.declared.turn.Turn.TheVariants.{Did, Idle}
+use Rattle.dfs_worker.specs.Census.{Census, count, one, of_slot, of_hand, of_stack}
+use Rattle.dfs_worker.specs.Guards.{own_guard}
+use Rattle.dfs_worker.specs.Own.{advanced}
+use Rattle.dfs_worker.specs.Slots.{slot_of, open_at, is_open}
+use Rattle.dfs_worker.specs.Sound.{StandsOn, IsStack, IsWorker, WithinRoots}
+use Rattle.dfs_worker.specs.State.{State, waiting}
+use Rattle.dfs_worker.specs.Turn.{call_of, own_part, left_by, MissedCall, Made, Step, Tried, Holds, Fits, own_credits, works_of, homes_of}
 use Rattle.dfs_worker.proofs.Advances.{advanced-keeps}
-use Rattle.dfs_worker.proofs.Counts.{advanced-count, descended-count, appended-count, charged-count, fetched-count, posted-count, freed-count, popped-count, picked-count, restored-count}
-use Rattle.dfs_worker.proofs.Facts.{free-hand, child-facts, charged-facts, charges-facts, post-facts, push-facts, pop-facts, pick-facts, discharge-facts, restore-facts, waiting-is}
-use Rattle.dfs_worker.proofs.Holdings.{may-call, holds-by, SameSelf, fits-after, fits-with, fits-missed}
-use Rattle.dfs_worker.proofs.Keeps.{IsEmpty, descended-keeps, descended-is, appended-keeps, appended-is, charged-keeps, charged-is, fetched-keeps, posted-keeps, posted-is, freed-keeps, popped-keeps, picked-keeps, restored-keeps}
-use Rattle.dfs_worker.proofs.Places.{OpenAt, open-facts, slot-within, total-set_or}
-use Rattle.dfs_worker.proofs.Roots.{advanced-roots, descended-roots, appended-roots, charged-roots, fetched-roots, posted-roots, picked-roots, restored-roots}
+use Rattle.dfs_worker.proofs.Counts.{advanced-count}
+use Rattle.dfs_worker.proofs.Facts.{child-facts, waiting-is}
+use Rattle.dfs_worker.proofs.Holdings.{holds-by, SameSelf, fits-with}
+use Rattle.dfs_worker.proofs.Places.{open-facts, slot-within, total-set_or}
+use Rattle.dfs_worker.proofs.Roots.{advanced-roots}
 
 -- ---- one try
 pub did-step : {F : Type 0} (agrees : F → ℕ → Holding → Type 0) (done : F → ℕ → Call → Given → F → Type 0) (excused : F → ℕ → Call → F → Type 0) (shape : F → Extents) (roots : F → ℕ → ℕ) (tree : Tree)
@@ -66,10 +59,10 @@ guard-none None own e h = sym e
 guard-none (Some g) own e h = cc
 
 -- ---- what the worker holds
-same-number : (n : ℕ) → nat_eq n n ≡ true
+pub same-number : (n : ℕ) → nat_eq n n ≡ true
 same-number n = grind (arith, nat_tests)
 
-one-true : (b : Bool) → b ≡ true → one b ≡ 1
+pub one-true : (b : Bool) → b ≡ true → one b ≡ 1
 one-true true e = refl
 one-true false e = cc
 
