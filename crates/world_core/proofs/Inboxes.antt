@@ -35,6 +35,7 @@ use Rattle.world_core.specs.Sound.{Sound, AreMessages, queued, homes_in}
 use Rattle.world_core.specs.Step.{shared_guard, own_part, shared_part, posted_test, popped_as, pushed_from, restored_from, restored_rest}
 use Rattle.world_core.specs.World.{World}
 use Rattle.world_core.proofs.Happens.{After, StaysPut, put-restored, keeps-of}
+use Rattle.world_core.proofs.Marks.{and-true}
 use Rattle.world_core.proofs.Moves.{Moves}
 use Rattle.world_core.proofs.Moving.{Keeps, stores-moves}
 use Rattle.world_core.proofs.Parts.{machine-in, sound-part}
@@ -46,10 +47,6 @@ use Rattle.world_core.proofs.Words.{number-raised}
 pub record InboxIs (s : Shared) (n k : ℕ) (ms : List Message) : Type 0 where
   pub stage : k < s.shape.stages
   pub at : slice_get s.inboxes (inbox_place s n k) ≡ Some ms
-
-and-true : (a b : Bool) → (a && b) ≡ true → (a ≡ true) × (b ≡ true)
-and-true true b e = (refl, e)
-and-true false b e = cc
 
 pub inbox-is : (s : Shared) (n k : ℕ) (ms : List Message) → inbox_at s n k ≡ Some ms → InboxIs s n k ms
 inbox-is s n k ms e = go (nat_lt 0 k && nat_lt k s.shape.stages) refl
@@ -94,7 +91,7 @@ push-for w i v b ms sound at hand there =
     let gone : (c : Census) → count c (freed v) + of_message c.posted b ≡ count c v =
     λ c. ap (λ e. count c (freed v) + e) (sym (ap (of_hand c v.machine) hand)) ∙ freed-count c v in
     stores-moves w i v (freed v) w.shared.pools (slice_set w.shared.inboxes (inbox_place w.shared b.to b.stage) new) sound at
-    (keeps-of v (freed v) (record { place = record { number = refl; machine = refl; shape = refl }; enrolled = refl }) (freed-keeps v worker))
+    (keeps-of w i v sound at (freed v) (record { place = record { number = refl; machine = refl; shape = refl }; enrolled = refl; marks = refl }) (freed-keeps v worker))
     refl (length-set w.shared.inboxes (inbox_place w.shared b.to b.stage) new)
     (λ m k n. let c = gone (credits_of m k n) in omega arith)
     (λ m k n unit.
@@ -146,7 +143,7 @@ pop-for w i k v b bs sound at guards there =
     let inbox = inbox-is w.shared v.machine k (b ∷ bs) there in
     let more : (c : Census) → count c (popped b v) ≡ count c v + of_message c.popped b = λ c. popped-count c v b f.0 in
     stores-moves w i v (popped b v) w.shared.pools (slice_set w.shared.inboxes (inbox_place w.shared v.machine k) bs) sound at
-    (keeps-of v (popped b v) (record { place = record { number = refl; machine = refl; shape = refl }; enrolled = refl })
+    (keeps-of w i v sound at (popped b v) (record { place = record { number = refl; machine = refl; shape = refl }; enrolled = refl; marks = refl })
     (popped-keeps v b worker (subst (λ j. own_guard (Pop i j) v ≡ None) (sym is.2) guards) is.1 (subst (λ x. IsMessageOf x b) (sym shape) is.0)))
     refl (length-set w.shared.inboxes (inbox_place w.shared v.machine k) bs)
     (λ m j n. let c = more (credits_of m j n) in omega arith)
@@ -188,7 +185,7 @@ restore-for w i v frame frames b next sound at guards ends =
     let within : b.items.home < length w.shared.pools = omega arith in
     let same : (m k n : ℕ) → one (is_word m k n b.from b.stage b.to) ≡ one (is_word m k n b.from b.stage v.machine) = λ m k n. ap (λ x. one (is_word m k n b.from b.stage x)) here in
     stores-moves w i v (restored v) (slice_set w.shared.pools b.items.home (pool_at w.shared b.items.home + 1)) w.shared.inboxes sound at
-    (keeps-of v (restored v) (put-restored v v.stack) (restored-keeps v worker guards))
+    (keeps-of w i v sound at (restored v) (put-restored v v.stack) (restored-keeps v worker guards))
     (length-set w.shared.pools b.items.home (pool_at w.shared b.items.home + 1)) refl
     (λ m k n. let c = restored-count (credits_of m k n) v frame frames b next ends in let d = same m k n in omega arith)
     (λ m k n unit. let c = restored-count (flying_of m k n) v frame frames b next ends in omega arith)

@@ -2,10 +2,12 @@ pub mod Bodies
 pub mod Happens
 pub mod Inboxes
 pub mod Made
+pub mod Marks
 pub mod Moves
 pub mod Moving
 pub mod Owes
 pub mod Parts
+pub mod Past
 pub mod Starts
 pub mod Steps
 pub mod Travels

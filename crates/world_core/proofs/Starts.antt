@@ -17,8 +17,9 @@ use Rattle.fabric.proofs.Starts.{start-shared, alike}
 use Rattle.dfs_worker.specs.Census.{Census, count, of_slot, one, credits_of, flying_of, buffers_of}
 use Rattle.dfs_worker.specs.Sound.{IsWorker, WithinRoots}
 use Rattle.dfs_worker.specs.State.{State, fresh, no_slots}
-use Rattle.world_core.specs.Sound.{Sound, IsPlaced, enrolled_of, queued, homes_in}
+use Rattle.world_core.specs.Sound.{Sound, AreMarks, IsPlaced, enrolled_of, queued, homes_in}
 use Rattle.world_core.specs.World.{World, world_of, Fits, roots_of, fresh_workers, start_world}
+use Rattle.world_core.proofs.Marks.{none-marked}
 use Rattle.world_core.proofs.Words.{place-within}
 
 -- ---- lists
@@ -197,6 +198,9 @@ start-sound shape tree is =
       retired = λ i v at left. absurd (let e = ap (λ u. u.enrolled) (workers-at shape (shape.machines * shape.workers) i v at) in cc);
       messages = λ machine stage i messages message inside at. absurd (empty-inbox shape (roots_of tree shape.machines) machine stage i messages message inside at);
       cursors = λ m low. let z = zero-at shape.machines m in omega arith;
+      closed = record { enrolled = λ some. absurd (omega arith); used = λ m k n unit low. absurd (omega arith) };
+      marks = λ i v at. subst (λ (u : State). AreMarks (start shape (roots_of tree shape.machines)) u.marks) (sym (workers-at shape (shape.machines * shape.workers) i v at))
+          (none-marked (start shape (roots_of tree shape.machines)) shape.machines shape.stages);
       claimed = λ i v at. subst (λ (u : State). WithinRoots (get_or (replicate shape.machines 0) u.machine 0) u.stack) (sym (workers-at shape (shape.machines * shape.workers) i v at)) tt;
     }
   where

@@ -34,7 +34,7 @@ event-moves tree w (Pop i k) v law fits sound on = pop-happens tree w i k v soun
 event-moves tree w (Pick i) v law fits sound on = pick-happens tree w i v sound on.at on.own on.shared
 event-moves tree w (Restore i) v law fits sound on = restore-happens tree w i v sound on.at on.own
 event-moves tree w (Discharge i) v law fits sound on = discharge-happens tree w i v sound on.at on.own
-event-moves tree w (Mark i a b) v law fits sound on = mark-happens tree w i a b v sound on.at
+event-moves tree w (Mark i a b) v law fits sound on = mark-happens tree w i a b v sound on.at on.shared
 event-moves tree w (Close i) v law fits sound on = close-happens tree w i v sound on.at on.shared
 
 pub happens-is : (tree : Tree) (w : World) (e : Event) (v : State) → slice_get w.workers (worker_of e) ≡ Some v →
