@@ -169,8 +169,14 @@ retire-happens tree w i v sound at guards shared =
     (λ c. retired-count c v) starts.enrolled refl (part.enrolled starts.enrolled) (grind (arith, nat_tests, stop, most)) (sound.claimed i v at) (sound.marks i v at)
 
 -- ---- close
-pub close-happens : (tree : Tree) (w : World) (i : ℕ) (v : State) → Sound w → slice_get w.workers i ≡ Some v → shared_guard (Close i) v w.shared ≡ None → After tree w (Close i) v
-close-happens tree w i v sound at shared =
+-- who closes a stage has seen all its words, and a stage is left to close
+pub record ClosesNext (w : World) (v : State) : Type 0 where
+  pub same : v.marks.stage ≡ w.shared.closed
+  pub left : w.shared.closed < w.shared.shape.stages
+  pub all : list_all (λ m. m) v.marks.marked ≡ true
+
+pub close-facts : (w : World) (i : ℕ) (v : State) → Sound w → slice_get w.workers i ≡ Some v → shared_guard (Close i) v w.shared ≡ None → ClosesNext w v
+close-facts w i v sound at shared =
     let all = must-none (has_all_marks v.marks w.shared.closed) guard.Marks None shared in
     let parts = and-true (eqb v.marks.stage w.shared.closed) (is_ready v.marks) all.0 in
     let ready = and-true (nat_lt v.marks.stage v.marks.stages) (list_all (λ m. m) v.marks.marked) parts.1 in
@@ -179,7 +185,16 @@ close-happens tree w i v sound at shared =
     let stages = (sound.own i v at).mark_stages in
     let shape = ap (λ x. x.stages) (sound.placed i v at).shape in
     let below : v.marks.stage < v.marks.stages = grind (arith, nat_tests, low) in
-    let machines = (sound.own i v at).mark_machines ∙ ap (λ x. x.machines) (sound.placed i v at).shape in
-    close-moves w i v sound at (omega arith)
-    (λ word is. (sound.marks i v at).seen same word
-    (ready-marked w.shared v.marks word machines (stages ∙ shape) (omega arith) (sound.marks i v at).places ready.1 (subst (λ k. IsWordOf w.shared k word) (sym same) is)))
+    record { same = same; left = omega arith; all = ready.1 }
+
+pub close-happens : (tree : Tree) (w : World) (i : ℕ) (v : State) → Sound w → slice_get w.workers i ≡ Some v → shared_guard (Close i) v w.shared ≡ None → After tree w (Close i) v
+close-happens tree w i v sound at shared =
+    let f = close-facts w i v sound at shared in
+    let left = f.left in
+    let same = f.same in
+    let shape = (sound.placed i v at).shape in
+    let machines = (sound.own i v at).mark_machines ∙ ap (λ x. x.machines) shape in
+    let stages = (sound.own i v at).mark_stages ∙ ap (λ x. x.stages) shape in
+    close-moves w i v sound at f.left
+    (λ word is. (sound.marks i v at).seen f.same word
+    (ready-marked w.shared v.marks word machines stages (omega arith) (sound.marks i v at).places f.all (subst (λ k. IsWordOf w.shared k word) (sym f.same) is)))

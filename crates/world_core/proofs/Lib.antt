@@ -5,10 +5,11 @@ pub mod Made
 pub mod Marks
 pub mod Moves
 pub mod Moving
-pub mod Owes
 pub mod Parts
 pub mod Past
 pub mod Starts
 pub mod Steps
 pub mod Travels
+pub mod Weighs
 pub mod Words
+pub mod Works

@@ -158,7 +158,7 @@ event-word s a b e =
         let some : 0 < s.closed = omega arith in
         rw t (refl, (from, some, low, to'))
 
-false-at : (n i : ℕ) → get_or (replicate n false) i false ≡ false
+pub false-at : (n i : ℕ) → get_or (replicate n false) i false ≡ false
 false-at zero i = refl
 false-at (suc n) zero = refl
 false-at (suc n) (suc i) = false-at n i
