@@ -1,6 +1,8 @@
 pub mod Bodies
+pub mod Ends
 pub mod Happens
 pub mod Inboxes
+pub mod Leaves
 pub mod Made
 pub mod Marks
 pub mod Moves

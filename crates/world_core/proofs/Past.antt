@@ -25,7 +25,7 @@ AreLater closed [] = Unit {0}
 AreLater closed (frame ∷ frames) = (closed ≤ frame.stage) × AreLater closed frames
 
 -- who is enrolled has seen no stage closed
-enrolled-first : (s : Shared) (v : State) → IsPart s v → AreClosed s → v.machine < s.shape.machines → v.enrolled ≡ true → s.closed ≡ 0
+pub enrolled-first : (s : Shared) (v : State) → IsPart s v → AreClosed s → v.machine < s.shape.machines → v.enrolled ≡ true → s.closed ≡ 0
 enrolled-first s v part past low e = go s.closed refl
   where
     go : (n : ℕ) → s.closed ≡ n → s.closed ≡ 0

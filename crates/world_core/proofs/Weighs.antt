@@ -301,10 +301,12 @@ pub step-weighs : (t : Tree) (w w' : World) (e : Event) → IsTree t → Fits t 
     (x : (v : State) × (Enabled w e v × EventWeighs t w e v)) × ((s : Scale) → weight_world s t w + x.1.1.given s ≡ weight_world s t w' + x.1.1.taken s)
 step-weighs t w w' e law fits sound step =
     let x = enabled-facts w e step.enabled in
-    let y = event-weighs t w e x.0 law fits sound x.1 in
-    ((x.0, (x.1, y)), λ s.
-    world-weighs s t w (worker_of e) (spent_by e) x.0 (own_part t e w.shared x.0) (shared_part e x.0 w.shared) x.1.at y
-    ∙ ap (λ u. weight_world s t u + y.taken s) (sym (step.change ∙ happens-is t w e x.0 x.1.at)))
+    let y = event-weighs t w e x.0 law fits sound x.1 in (
+      (x.0, (x.1, y)),
+      λ s.
+          world-weighs s t w (worker_of e) (spent_by e) x.0 (own_part t e w.shared x.0) (shared_part e x.0 w.shared) x.1.at y
+          ∙ ap (λ u. weight_world s t u + y.taken s) (sym (step.change ∙ happens-is t w e x.0 x.1.at)),
+    )
 
 pub step-owes : (h : Context → ℕ) (t : Tree) (w w' : World) (e : Event) → IsTree t → Fits t w.shared → Sound w → Step t w e w' → owed h t w ≡ owed h t w'
 step-owes h t w w' e law fits sound step =

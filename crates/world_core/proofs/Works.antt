@@ -136,7 +136,7 @@ moved-unmarked : (marks : Marks) (closed : ℕ) → unmarked_at (moved_to marks 
 moved-unmarked marks closed = elim (moved-is marks closed) [
   | inl y ↦ ap (λ m. unmarked_at m closed) y.1
   | inr z ↦ (ap (λ m. unmarked_at m closed) z.1 ∙ at-same (unmarked marks.machines marks.stages closed) closed refl ∙ none-yet (words_of marks.machines marks.stages closed)
-    ∙ sym (ap (λ b. cond b (unmarked_in marks.marked) (words_of marks.machines marks.stages closed)) z.0))
+      ∙ sym (ap (λ b. cond b (unmarked_in marks.marked) (words_of marks.machines marks.stages closed)) z.0))
 ]
 
 one-more : (xs : List Bool) (i : ℕ) → i < length xs → get_or xs i false ≡ false → unmarked_in (slice_set xs i true) + 1 ≡ unmarked_in xs
@@ -169,9 +169,9 @@ mark-closes s v marks n size some stage before machines stages one_less =
     let f0 = ap (unmarked_at marks) first in
     let g0 = ap (unmarked_at v.marks) first in
     let change : total_below n f + g 0 ≡ total_below n g + f 0 = below-change n 0 f g some (λ k ne.
-        at-other marks (s.closed + k) (λ e. ne (omega arith))
-        ∙ ap (λ m. words_of m marks.stages (s.closed + k)) machines ∙ ap (λ x. words_of v.marks.machines x (s.closed + k)) stages
-        ∙ sym (at-other v.marks (s.closed + k) (λ e. ne (omega arith)))) in
+    at-other marks (s.closed + k) (λ e. ne (omega arith))
+    ∙ ap (λ m. words_of m marks.stages (s.closed + k)) machines ∙ ap (λ x. words_of v.marks.machines x (s.closed + k)) stages
+    ∙ sym (at-other v.marks (s.closed + k) (λ e. ne (omega arith)))) in
     let fn = ap (λ k. total_below k f) size in
     let gn = ap (λ k. total_below k g) size in
     record { each = λ u. omega arith; falls = omega arith }

@@ -1,5 +1,7 @@
 pub mod May
 pub mod Owed
+pub mod Reach
+pub mod Rows
 pub mod Sound
 pub mod Step
 pub mod Stepped

@@ -6,7 +6,7 @@ use Rattle.match_context.specs.declared.message.Message.{Message}
 use Rattle.fabric.specs.Calls.{IsMessageOf}
 use Rattle.adfs_base.specs.declared.step_answers.Word.{Word}
 use Rattle.stage_termination.specs.Marks.{Marks, words_of, is_marked}
-use Rattle.fabric.specs.Shared.{Shared, IsShared, IsUnit, IsWorkerOf, machine_of, used_at, flying_at, roots_at, cursor_at, enrolled_at, pool_at, inbox_at, word_at}
+use Rattle.fabric.specs.Shared.{Shared, IsShared, IsUnit, IsWorkerOf, machine_of, used_at, flying_at, roots_at, cursor_at, enrolled_at, pool_at, inbox_place, word_at}
 use Rattle.dfs_worker.specs.Census.{Census, count, credits_of, flying_of, buffers_of, one, is_word, of_message}
 use Rattle.dfs_worker.specs.Sound.{IsWorker, WithinRoots}
 use Rattle.dfs_worker.specs.State.{State}
@@ -24,10 +24,11 @@ homes_in home messages = total (λ message. one (message.items.home == home)) me
 abbrev pub enrolled_of : ℕ → State → ℕ
 enrolled_of machine v = one (v.enrolled && (v.machine == machine))
 
--- A message in an inbox is of that machine and stage.
+-- A message in an inbox is of that machine and stage. So the inboxes of stage 0 are empty.
 abbrev pub AreMessages : Shared → Type 0
 AreMessages s =
-    (machine stage i : ℕ) (messages : List Message) (message : Message) → inbox_at s machine stage ≡ Some messages → slice_get messages i ≡ Some message →
+    (machine stage i : ℕ) (messages : List Message) (message : Message) → stage < s.shape.stages →
+    slice_get s.inboxes (inbox_place s machine stage) ≡ Some messages → slice_get messages i ≡ Some message →
     IsMessageOf s.shape message × (message.to ≡ machine) × (message.stage ≡ stage)
 
 -- Each worker has its number, its machine and the shape of all.

@@ -1,4 +1,6 @@
-ghost use Rattle.std.specs.Prelude.{◌≡◌, ◌*◌, ◌<◌, ◌≤◌, IfOk, length};
+ghost use Rattle.std.specs.Prelude.{◌≡◌, ◌*◌, ◌<◌, ◌≤◌, ◌↔◌, IsTrue, IfOk, length};
+ghost use Rattle.world_core.specs.Reach.{CanReach};
+ghost use Rattle.world_core.specs.Rows.{IsFinished};
 ghost use Rattle.adfs_base.specs.Shape.{IsShape};
 ghost use Rattle.world_core.specs.Owed.{owed};
 ghost use Rattle.world_core.specs.Step.{guard_of};
@@ -57,6 +59,21 @@ impl World {
         ensures { result.now ≡ self.now.shared }
     {
         &self.fabric
+    }
+
+    /// How many stages are closed. None of these can be reached again.
+    pub fn closed(&self) -> u32
+        ensures closed { result ≡ self.now.shared.closed }
+        ensures stays { (stage : _) → stage < result → CanReach self.now stage → ⊥ }
+    {
+        self.fabric.closed_at()
+    }
+
+    /// Whether all stages are closed: nothing is left to do.
+    pub fn finished(&self) -> bool
+        ensures { IsTrue result ↔ IsFinished self.now }
+    {
+        self.fabric.closed_at() == self.fabric.shape().stages()
     }
 
     /// The first guard of the event that fails. None exactly where all hold.
