@@ -1,0 +1,2 @@
+//! No state of the core is stuck, and a run of it comes to its end.
+#![tactic(auto)]
