@@ -12,3 +12,4 @@ pub mod Asks
 pub mod Steps
 pub mod Starting
 pub mod Sweeps
+pub mod Rounds

@@ -61,7 +61,7 @@ message-given agrees shape roots tree v f stage message h given =
     (subst (λ s. IsMessageOf s message) h.same_shape given.0, given.1 ∙ ap (λ s. machine_in s v.number) h.same_shape ∙ sym h.number, given.2)
 
 -- ---- post
-posted-fits : {F : Type 0} (agrees : F → ℕ → Holding → Type 0) (done : F → ℕ → Call → Given → F → Type 0) (shape : F → Extents) (roots : F → ℕ → ℕ) (tree : Tree)
+pub posted-fits : {F : Type 0} (agrees : F → ℕ → Holding → Type 0) (done : F → ℕ → Call → Given → F → Type 0) (shape : F → Extents) (roots : F → ℕ → ℕ) (tree : Tree)
     (v : State) (f f' : F) (stage to : ℕ) → Fits agrees shape roots tree v f → own_guard (event.Post 0 stage to) v ≡ None →
     Ready agrees done shape roots f v.number (ToPost stage to) Nothing f' → Fits agrees shape roots tree (posted stage to v) f'
 posted-fits agrees done shape roots tree v f f' stage to h own r =
@@ -138,13 +138,10 @@ fetch-tried agrees done excused shape roots tree v v' f f' w buffer h own same r
     (λ i j. omega arith) (λ i j. omega arith) (λ i. omega arith) h.holds)))
 
 pub post-tried : {F : Type 0} (agrees : F → ℕ → Holding → Type 0) (done : F → ℕ → Call → Given → F → Type 0) (excused : F → ℕ → Call → F → Type 0) (shape : F → Extents) (roots : F → ℕ → ℕ) (tree : Tree)
-    (v v' : State) (f f' : F) (w stage to : ℕ) → Fits agrees shape roots tree v f → own_guard (event.Post 0 stage to) v ≡ None → w ≡ v.number →
-    Ready agrees done shape roots f w (ToPost stage to) Nothing f' → v' ≡ posted stage to v →
-    Tried agrees done excused shape roots tree v f (Step (event.Post v.number stage to) ∷ []) (Did (event.Post w stage to)) v' f'
-post-tried agrees done excused shape roots tree v v' f f' w stage to h own same ready is =
-    let r = subst (λ n. Ready agrees done shape roots f n (ToPost stage to) Nothing f') same ready in
-    did-step agrees done excused shape roots tree v v' f f' (event.Post v.number stage to) (event.Post w stage to) Nothing (ap (λ n. event.Post n stage to) same) own is r.made
-    (subst (λ u. Fits agrees shape roots tree u f') (sym is) (posted-fits agrees done shape roots tree v f f' stage to h own r))
+    (v v' : State) (f f' : F) (stage to : ℕ) (made : Event) → own_guard (event.Post 0 stage to) v ≡ None → made ≡ event.Post v.number stage to → v' ≡ posted stage to v →
+    done f v.number (ToPost stage to) Nothing f' → Fits agrees shape roots tree v' f' → Tried agrees done excused shape roots tree v f (Step (event.Post v.number stage to) ∷ []) (Did made) v' f'
+post-tried agrees done excused shape roots tree v v' f f' stage to made own same is shared fits =
+    did-step agrees done excused shape roots tree v v' f f' (event.Post v.number stage to) made Nothing same own is shared fits
 
 pub push-tried : {F : Type 0} (agrees : F → ℕ → Holding → Type 0) (done : F → ℕ → Call → Given → F → Type 0) (excused : F → ℕ → Call → F → Type 0) (shape : F → Extents) (roots : F → ℕ → ℕ) (tree : Tree)
     (v v' : State) (f f' : F) (w : ℕ) (message : Message) → Fits agrees shape roots tree v f → v.hand ≡ Posted message → w ≡ v.number →

@@ -387,6 +387,12 @@ idle_after (Did made) idle = 0
 idle_after Idle idle = min (idle + 1) (2 ^ 32 - 1)
 idle_after NoMemory idle = idle
 
+-- What a turn does: its tries, and the count of idle turns. `left` is the worker as the tries left it.
+pub record TookTurn {F : Type 0} (done : F → ℕ → Call → Given → F → Type 0) (excused : F → ℕ → Call → F → Type 0) (tree : Tree) (v : State) (f : F) (answer : ℕ) (turn : Turn) (v' : State) (f' : F) : Type 0 where
+  pub left : State
+  pub made : IsTurn done excused tree v f (turn_tries v answer) turn left f'
+  pub counted : v' ≡ record left { idle = idle_after turn v.idle }
+
 -- ---- what a turn asks for
 abbrev pub own_credits : ℕ → ℕ → Census
 own_credits stage to =

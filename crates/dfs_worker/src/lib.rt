@@ -27,10 +27,13 @@ mod frames;
 mod guard;
 mod guards;
 mod hand;
+mod looks;
 mod outbox;
 mod stack;
 mod starts;
+mod tries;
 mod turn;
+mod turns;
 mod worker;
 
 pub use event::Event;
