@@ -161,8 +161,8 @@ tries_of w stages stack hand attempt.PostOthers = PostOther ∷ []
 tries_of w stages stack hand attempt.Pop = pops_from w (lowest_pop stack) (stages - lowest_pop stack)
 tries_of w stages stack hand attempt.Claim = Start ∷ []
 tries_of w stages stack hand attempt.Retire = []
-tries_of w stages stack hand attempt.Mark = []
-tries_of w stages stack hand attempt.Close = []
+tries_of w stages stack hand attempt.Mark = NextMark ∷ []
+tries_of w stages stack hand attempt.Close = NextClose ∷ []
 
 abbrev pub all_tries : ℕ → ℕ → List Frame → Hand → List Attempt → List Try
 all_tries w stages stack hand [] = []

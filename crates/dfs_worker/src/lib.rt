@@ -22,6 +22,7 @@
 #![tactic(auto)]
 
 mod attempts;
+mod closing;
 mod event;
 mod frames;
 mod guard;

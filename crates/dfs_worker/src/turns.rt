@@ -4,6 +4,7 @@ ghost use Rattle.dfs_worker.specs.Sound.{IsWorker};
 ghost use Rattle.dfs_worker.specs.Turn.{Fits, Tried, TookTurn, Step, tries_of, all_tries, turn_tries, look_of, is_retire, start_at, idle_after};
 
 use crate::attempts;
+use crate::closing;
 use crate::event::Event;
 use crate::hand::Hand;
 use crate::starts;
@@ -161,8 +162,8 @@ fn one_attempt<F: Fabric, X: Expand>(
         Attempt::Claim => starts::start(worker, fabric, x),
         // the claim before it has made it, where no root is left
         Attempt::Retire => Turn::Idle,
-        Attempt::Mark => Turn::Idle,
-        Attempt::Close => Turn::Idle,
+        Attempt::Mark => closing::mark(worker, fabric, x),
+        Attempt::Close => closing::close(worker, fabric, x),
     }
 }
 
