@@ -1,5 +1,5 @@
 -- The steps of a turn that mark the words of a stage and close it.
-use Rattle.std.proofs.Common.{◌≡◌, ◌≢◌, ℕ, ◌+◌, ◌*◌, ◌<◌, ◌≤◌, Bool, true, false, cond, ◌&&◌, ◌||◌, List, [], ◌∷◌, length, get_or, replicate, Option, Some, None, refl, sym, ap, ◌∙◌, subst, arith, zero, suc, inl, inr}
+use Rattle.std.proofs.Common.{◌≡◌, ℕ, ◌+◌, ◌*◌, ◌<◌, ◌≤◌, Bool, true, false, cond, ◌&&◌, ◌||◌, List, [], ◌∷◌, length, get_or, replicate, Some, None, refl, sym, ap, ◌∙◌, subst, arith, zero, suc, inl, inr}
 use Rattle.std.specs.Prelude.{nat_lt, nat_eq, slice_set}
 use Rattle.std.specs.List.{list_all}
 use Rattle.std.proofs.lemmas.Bool.Decides.{nat_tests}
@@ -159,17 +159,17 @@ mark-marked m (Used i k j) (Used i' k' j') whole h =
     let is = used-word m i k j h in
     marked-by m.marked (i * m.machines + j) (i' * m.machines + j') (is_word m (Used i' k' j')) (nat_eq i i' && (nat_eq k k' && nat_eq j j')) (omega arith)
     (λ e.
-      let a = both (nat_eq i i') (nat_eq k k' && nat_eq j j') e in
-      let b = both (nat_eq k k') (nat_eq j j') a.1 in
-      let same_i = eq-of i i' a.0 in
-      let same_k = eq-of k k' b.0 in
-      let same_j = eq-of j j' b.1 in
-      (rw (same_i, same_j) refl, subst (λ n. is_word m (Used n k' j') ≡ true) same_i (subst (λ n. is_word m (Used i n j') ≡ true) same_k (subst (λ n. is_word m (Used i k n) ≡ true) same_j h))))
+    let a = both (nat_eq i i') (nat_eq k k' && nat_eq j j') e in
+    let b = both (nat_eq k k') (nat_eq j j') a.1 in
+    let same_i = eq-of i i' a.0 in
+    let same_k = eq-of k k' b.0 in
+    let same_j = eq-of j j' b.1 in
+    (rw (same_i, same_j) refl, subst (λ n. is_word m (Used n k' j') ≡ true) same_i (subst (λ n. is_word m (Used i n j') ≡ true) same_k (subst (λ n. is_word m (Used i k n) ≡ true) same_j h))))
     (λ e within same.
-      let other = used-word m i' k' j' within in
-      let at = same_from_place i' j' i j m.machines other.to_in is.to_in same in
-      let t : (nat_eq i i' && (nat_eq k k' && nat_eq j j')) ≡ true = rw (eq-is i i' (sym at.0), eq-is k k' (is.here ∙ sym other.here), eq-is j j' (sym at.1)) refl in
-      cc)
+    let other = used-word m i' k' j' within in
+    let at = same_from_place i' j' i j m.machines other.to_in is.to_in same in
+    let t : (nat_eq i i' && (nat_eq k k' && nat_eq j j')) ≡ true = rw (eq-is i i' (sym at.0), eq-is k k' (is.here ∙ sym other.here), eq-is j j' (sym at.1)) refl in
+    cc)
 
 none-true : (n i : ℕ) → get_or (replicate n false) i false ≡ false
 none-true zero i = refl
@@ -217,14 +217,16 @@ look-holds v x closed h low =
     }
 
 -- the worker looked at this many closed stages
-pub record Looks {F : Type 0} (agrees : F → ℕ → Holding → Type 0) (done : F → ℕ → Call → Given → F → Type 0) (shape : F → Extents) (roots : F → ℕ → ℕ) (tree : Tree) (v : State) (f g : F) (closed : ℕ) : Type 0 where
+pub record Looks {F : Type 0} (agrees : F → ℕ → Holding → Type 0) (done : F → ℕ → Call → Given → F → Type 0) (shape : F → Extents) (roots : F → ℕ → ℕ) (tree : Tree) (v : State) (f g : F)
+    (closed : ℕ) : Type 0 where
   pub fits : Fits agrees shape roots tree v f
   pub made : done f v.number ToLook (Seen closed) g
   pub same : SameExtent shape roots f g
   pub holds : Holds (moved closed v) (seen_closed closed fits.holding)
   pub agreed : agrees g v.number (seen_closed closed fits.holding)
 
-pub looks-of : {F : Type 0} (agrees : F → ℕ → Holding → Type 0) (done : F → ℕ → Call → Given → F → Type 0) (shape : F → Extents) (roots : F → ℕ → ℕ) (tree : Tree) (v : State) (f g : F) (w closed : ℕ) →
+pub looks-of : {F : Type 0} (agrees : F → ℕ → Holding → Type 0) (done : F → ℕ → Call → Given → F → Type 0) (shape : F → Extents) (roots : F → ℕ → ℕ) (tree : Tree) (v : State) (f g : F)
+    (w closed : ℕ) →
     Fits agrees shape roots tree v f → w ≡ v.number → Ready agrees done shape roots f w ToLook (Seen closed) g → ((x : Holding) → agrees f w x → x.closed ≤ closed) →
     Looks agrees done shape roots tree v f g closed
 looks-of agrees done shape roots tree v f g w closed h same ready rises =
@@ -249,7 +251,8 @@ looks-shape : {F : Type 0} (agrees : F → ℕ → Holding → Type 0) (done : F
     Looks agrees done shape roots tree v f g closed → shape g ≡ v.shape
 looks-shape agrees done shape roots tree v f g closed at = at.same.same_shape ∙ at.fits.same_shape
 
-looks-missed : {F : Type 0} (agrees : F → ℕ → Holding → Type 0) (done : F → ℕ → Call → Given → F → Type 0) (excused : F → ℕ → Call → F → Type 0) (shape : F → Extents) (roots : F → ℕ → ℕ) (tree : Tree)
+looks-missed : {F : Type 0} (agrees : F → ℕ → Holding → Type 0) (done : F → ℕ → Call → Given → F → Type 0) (excused : F → ℕ → Call → F → Type 0) (shape : F → Extents) (roots : F → ℕ → ℕ)
+    (tree : Tree)
     (v : State) (f g f' : F) (closed : ℕ) (call : Call) → Looks agrees done shape roots tree v f g closed → Missed agrees excused shape roots unlooked g v.number call f' →
     Fits agrees shape roots tree (moved closed v) f'
 looks-missed agrees done excused shape roots tree v f g f' closed call at m =
@@ -263,16 +266,17 @@ pub may-look : {F : Type 0} (agrees : F → ℕ → Holding → Type 0) (shape :
     Fits agrees shape roots tree v f → w ≡ v.number → MayCall agrees shape f w ToLook
 may-look agrees shape roots tree v f w h same = rw same (may-call agrees shape roots tree v f ToLook h tt)
 
-
 -- ---- mark
-allows-mark : {F : Type 0} (agrees : F → ℕ → Holding → Type 0) (done : F → ℕ → Call → Given → F → Type 0) (shape : F → Extents) (roots : F → ℕ → ℕ) (tree : Tree) (v : State) (f g : F) (closed : ℕ) (word : Word) →
+allows-mark : {F : Type 0} (agrees : F → ℕ → Holding → Type 0) (done : F → ℕ → Call → Given → F → Type 0) (shape : F → Extents) (roots : F → ℕ → ℕ) (tree : Tree) (v : State) (f g : F)
+    (closed : ℕ) (word : Word) →
     (at : Looks agrees done shape roots tree v f g closed) → IsWordOf (moved closed v).marks word → Allows (shape g) (seen_closed closed at.fits.holding) (ToMark word)
 allows-mark agrees done shape roots tree v f g closed word at h =
     let worker = moved-keeps v closed at.fits.worker in
     let is = stage-word v.shape (moved closed v).marks word worker.mark_stages worker.mark_machines h in
     (refl, subst (λ s. IsStageWord s closed word) (sym (looks-shape agrees done shape roots tree v f g closed at)) (subst (λ k. IsStageWord v.shape k word) (moved-stage v.marks closed) is))
 
-pub may-mark : {F : Type 0} (agrees : F → ℕ → Holding → Type 0) (done : F → ℕ → Call → Given → F → Type 0) (shape : F → Extents) (roots : F → ℕ → ℕ) (tree : Tree) (v u : State) (f g : F) (w closed : ℕ) (word : Word) →
+pub may-mark : {F : Type 0} (agrees : F → ℕ → Holding → Type 0) (done : F → ℕ → Call → Given → F → Type 0) (shape : F → Extents) (roots : F → ℕ → ℕ) (tree : Tree) (v u : State) (f g : F)
+    (w closed : ℕ) (word : Word) →
     Looks agrees done shape roots tree v f g closed → w ≡ v.number → u ≡ moved closed v → IsWordOf u.marks word → MayCall agrees shape g w (ToMark word)
 may-mark agrees done shape roots tree v u f g w closed word at same is h =
     let h' = subst (λ s. IsWordOf s.marks word) is h in
@@ -293,8 +297,10 @@ mark-holds v x closed word h is at whole =
       unmarked = λ lt other. absurd (omega arith);
     }
 
-pub mark-tried : {F : Type 0} (agrees : F → ℕ → Holding → Type 0) (done : F → ℕ → Call → Given → F → Type 0) (excused : F → ℕ → Call → F → Type 0) (shape : F → Extents) (roots : F → ℕ → ℕ) (tree : Tree)
-    (v u v' : State) (f g f' : F) (w closed : ℕ) (word : Word) (made : Event) → Looks agrees done shape roots tree v f g closed → w ≡ v.number → u ≡ moved closed v → next_word_of u.marks ≡ Some word →
+pub mark-tried : {F : Type 0} (agrees : F → ℕ → Holding → Type 0) (done : F → ℕ → Call → Given → F → Type 0) (excused : F → ℕ → Call → F → Type 0) (shape : F → Extents) (roots : F → ℕ → ℕ)
+    (tree : Tree)
+    (v u v' : State) (f g f' : F) (w closed : ℕ) (word : Word) (made : Event) → Looks agrees done shape roots tree v f g closed → w ≡ v.number → u ≡ moved closed v →
+    next_word_of u.marks ≡ Some word →
     IsWordOf u.marks word → length u.marks.marked ≡ words_of u.marks.machines u.marks.stages u.marks.stage → Ready agrees done shape roots g w (ToMark word) Nothing f' →
     v' ≡ record u { marks = with_mark u.marks word } → made ≡ mark_event w word → Tried agrees done excused shape roots tree v f (NextMark ∷ []) (Did made) v' f'
 mark-tried agrees done excused shape roots tree v u v' f g f' w closed word made at same is next of_stage whole ready own event_is =
@@ -322,7 +328,8 @@ mark-tried agrees done excused shape roots tree v u v' f g f' w closed word made
           (r.holds x y at.agreed (allows-mark agrees done shape roots tree v f g closed word at here) (SameHolding-refl y)));
     }
 
-pub mark-missed : {F : Type 0} (agrees : F → ℕ → Holding → Type 0) (done : F → ℕ → Call → Given → F → Type 0) (excused : F → ℕ → Call → F → Type 0) (shape : F → Extents) (roots : F → ℕ → ℕ) (tree : Tree)
+pub mark-missed : {F : Type 0} (agrees : F → ℕ → Holding → Type 0) (done : F → ℕ → Call → Given → F → Type 0) (excused : F → ℕ → Call → F → Type 0) (shape : F → Extents) (roots : F → ℕ → ℕ)
+    (tree : Tree)
     (v u : State) (f g f' : F) (w closed : ℕ) (word : Word) → Looks agrees done shape roots tree v f g closed → w ≡ v.number → u ≡ moved closed v → next_word_of u.marks ≡ Some word →
     Missed agrees excused shape roots unlooked g w (ToMark word) f' → Tried agrees done excused shape roots tree v f (NextMark ∷ []) Idle u f'
 mark-missed agrees done excused shape roots tree v u f g f' w closed word at same is next missed =
@@ -333,7 +340,8 @@ mark-missed agrees done excused shape roots tree v u f g f' w closed word at sam
       fits = subst (λ s. Fits agrees shape roots tree s f') (sym is) (looks-missed agrees done excused shape roots tree v f g f' closed (ToMark word) at m);
     }
 
-pub mark-none : {F : Type 0} (agrees : F → ℕ → Holding → Type 0) (done : F → ℕ → Call → Given → F → Type 0) (excused : F → ℕ → Call → F → Type 0) (shape : F → Extents) (roots : F → ℕ → ℕ) (tree : Tree)
+pub mark-none : {F : Type 0} (agrees : F → ℕ → Holding → Type 0) (done : F → ℕ → Call → Given → F → Type 0) (excused : F → ℕ → Call → F → Type 0) (shape : F → Extents) (roots : F → ℕ → ℕ)
+    (tree : Tree)
     (v u : State) (f g : F) (closed : ℕ) → Looks agrees done shape roots tree v f g closed → u ≡ moved closed v → next_word_of u.marks ≡ None →
     Tried agrees done excused shape roots tree v f (NextMark ∷ []) Idle u g
 mark-none agrees done excused shape roots tree v u f g closed at is next =
@@ -344,7 +352,8 @@ mark-none agrees done excused shape roots tree v u f g closed at is next =
     }
 
 -- ---- close
-all-marked : (shape : Extents) (m : Marks) (x : Holding) (v : State) → m.stages ≡ shape.stages → m.machines ≡ shape.machines → is_ready m ≡ true → length m.marked ≡ words_of m.machines m.stages m.stage →
+all-marked : (shape : Extents) (m : Marks) (x : Holding) (v : State) → m.stages ≡ shape.stages → m.machines ≡ shape.machines → is_ready m ≡ true →
+    length m.marked ≡ words_of m.machines m.stages m.stage →
     ((word : Word) → x.marked word ≡ is_marked m word) → (word : Word) → IsStageWord shape m.stage word → x.marked word ≡ true
 all-marked shape m x v stages machines ready whole same word h =
     let low = lt-of m.stage m.stages (both (nat_lt m.stage m.stages) (list_all (λ b. b) m.marked) ready).0 in
@@ -365,7 +374,8 @@ allows-close agrees done shape roots tree v f g closed at ready whole =
     subst (λ s. Allows s x ToClose) (sym (looks-shape agrees done shape roots tree v f g closed at))
     (refl, omega arith, λ word h. all word (subst (λ k. IsStageWord v.shape k word) (sym stage) h))
 
-pub may-close : {F : Type 0} (agrees : F → ℕ → Holding → Type 0) (done : F → ℕ → Call → Given → F → Type 0) (shape : F → Extents) (roots : F → ℕ → ℕ) (tree : Tree) (v u : State) (f g : F) (w closed : ℕ) →
+pub may-close : {F : Type 0} (agrees : F → ℕ → Holding → Type 0) (done : F → ℕ → Call → Given → F → Type 0) (shape : F → Extents) (roots : F → ℕ → ℕ) (tree : Tree) (v u : State) (f g : F)
+    (w closed : ℕ) →
     Looks agrees done shape roots tree v f g closed → w ≡ v.number → u ≡ moved closed v → is_ready u.marks ≡ true →
     length u.marks.marked ≡ words_of u.marks.machines u.marks.stages u.marks.stage → MayCall agrees shape g w ToClose
 may-close agrees done shape roots tree v u f g w closed at same is ready whole =
@@ -386,7 +396,8 @@ close-holds v x closed h at =
       unmarked = λ lt word. refl;
     }
 
-pub close-tried : {F : Type 0} (agrees : F → ℕ → Holding → Type 0) (done : F → ℕ → Call → Given → F → Type 0) (excused : F → ℕ → Call → F → Type 0) (shape : F → Extents) (roots : F → ℕ → ℕ) (tree : Tree)
+pub close-tried : {F : Type 0} (agrees : F → ℕ → Holding → Type 0) (done : F → ℕ → Call → Given → F → Type 0) (excused : F → ℕ → Call → F → Type 0) (shape : F → Extents) (roots : F → ℕ → ℕ)
+    (tree : Tree)
     (v u : State) (f g f' : F) (w closed : ℕ) → Looks agrees done shape roots tree v f g closed → w ≡ v.number → u ≡ moved closed v → is_ready u.marks ≡ true →
     length u.marks.marked ≡ words_of u.marks.machines u.marks.stages u.marks.stage → Ready agrees done shape roots g w ToClose Nothing f' →
     Tried agrees done excused shape roots tree v f (NextClose ∷ []) (Did (event.Close w)) u f'
@@ -405,7 +416,8 @@ close-tried agrees done excused shape roots tree v u f g f' w closed at same is 
           (r.holds x y at.agreed (allows-close agrees done shape roots tree v f g closed at here full) (SameHolding-refl y)));
     }
 
-pub close-missed : {F : Type 0} (agrees : F → ℕ → Holding → Type 0) (done : F → ℕ → Call → Given → F → Type 0) (excused : F → ℕ → Call → F → Type 0) (shape : F → Extents) (roots : F → ℕ → ℕ) (tree : Tree)
+pub close-missed : {F : Type 0} (agrees : F → ℕ → Holding → Type 0) (done : F → ℕ → Call → Given → F → Type 0) (excused : F → ℕ → Call → F → Type 0) (shape : F → Extents)
+    (roots : F → ℕ → ℕ) (tree : Tree)
     (v u : State) (f g f' : F) (w closed : ℕ) → Looks agrees done shape roots tree v f g closed → w ≡ v.number → u ≡ moved closed v → is_ready u.marks ≡ true →
     Missed agrees excused shape roots unlooked g w ToClose f' → Tried agrees done excused shape roots tree v f (NextClose ∷ []) Idle u f'
 close-missed agrees done excused shape roots tree v u f g f' w closed at same is ready missed =
@@ -416,7 +428,8 @@ close-missed agrees done excused shape roots tree v u f g f' w closed at same is
       fits = subst (λ s. Fits agrees shape roots tree s f') (sym is) (looks-missed agrees done excused shape roots tree v f g f' closed ToClose at m);
     }
 
-pub close-none : {F : Type 0} (agrees : F → ℕ → Holding → Type 0) (done : F → ℕ → Call → Given → F → Type 0) (excused : F → ℕ → Call → F → Type 0) (shape : F → Extents) (roots : F → ℕ → ℕ) (tree : Tree)
+pub close-none : {F : Type 0} (agrees : F → ℕ → Holding → Type 0) (done : F → ℕ → Call → Given → F → Type 0) (excused : F → ℕ → Call → F → Type 0) (shape : F → Extents) (roots : F → ℕ → ℕ)
+    (tree : Tree)
     (v u : State) (f g : F) (closed : ℕ) → Looks agrees done shape roots tree v f g closed → u ≡ moved closed v → is_ready u.marks ≡ false →
     Tried agrees done excused shape roots tree v f (NextClose ∷ []) Idle u g
 close-none agrees done excused shape roots tree v u f g closed at is ready =

@@ -1,6 +1,6 @@
 -- A turn over a list of attempts, begun somewhere and gone round once.
-use Rattle.std.proofs.Common.{◌≡◌, ℕ, ◌+◌, ◌-◌, ◌<◌, ◌≤◌, ◌%◌, Bool, true, false, cond, not, List, [], ◌∷◌, ◌++◌, length, get_or, take, drop, add-one, Option, Some, None, refl, sym, ap, ◌∙◌, subst, arith, append_assoc, inl, inr}
-use Rattle.std.specs.Prelude.{nat_eq, slice_get, max}
+use Rattle.std.proofs.Common.{◌≡◌, ℕ, ◌+◌, ◌-◌, ◌<◌, ◌%◌, false, List, [], ◌∷◌, ◌++◌, length, get_or, take, drop, add-one, Some, None, refl, sym, ap, ◌∙◌, subst, arith, append_assoc, inl, inr}
+use Rattle.std.specs.Prelude.{nat_eq, max}
 use Rattle.std.proofs.lemmas.List.{append-nil, length-drop, take_all}
 use Rattle.std.proofs.Math.Seq.{drop-cons}
 use Rattle.adfs_base.specs.Shape.{Extents}
@@ -17,13 +17,12 @@ use Rattle.dfs_worker.specs.declared.event.Event.TheVariants as event
 use Rattle.dfs_worker.specs.declared.hand.Hand.{Hand}
 use Rattle.dfs_worker.specs.declared.hand.Hand.TheVariants.{Free, Charged, Posted, Popped, Emptied}
 use Rattle.dfs_worker.specs.declared.turn.Turn.{Turn}
-use Rattle.dfs_worker.specs.declared.turn.Turn.TheVariants.{Did, Idle, NoMemory}
+use Rattle.dfs_worker.specs.declared.turn.Turn.TheVariants.{Idle}
 use Rattle.dfs_worker.specs.Guards.{own_guard}
-use Rattle.dfs_worker.specs.Own.{moved}
 use Rattle.dfs_worker.specs.Sound.{IsHand, IsWorker}
-use Rattle.dfs_worker.specs.State.{State, is_free, is_over, next_stage, waiting}
-use Rattle.dfs_worker.specs.Turn.{Try, Step, PostOther, Start, NextMark, NextClose, PassedTry, IsTurn, Fits, Tried, Holds, emptied_top, left_by, own_post, pops_from, tries_of, all_tries, turn_tries, is_retire, start_at, begun_at, hand_number, hand_state_of, look_of}
-use Rattle.dfs_worker.proofs.Facts.{Works, advance-facts}
+use Rattle.dfs_worker.specs.State.{State, is_free, next_stage, waiting}
+use Rattle.dfs_worker.specs.Turn.{Try, Step, PostOther, Start, NextMark, NextClose, PassedTry, IsTurn, Fits, emptied_top, left_by, own_post, pops_from, tries_of, all_tries, turn_tries, is_retire, start_at, begun_at, hand_number, hand_state_of, look_of}
+use Rattle.dfs_worker.proofs.Facts.{advance-facts}
 use Rattle.dfs_worker.proofs.Sweeps.{ended-idle, turn-idle, turn-made}
 
 -- ---- what a passed try leaves as it was, as far as the later tries go by it
@@ -77,7 +76,6 @@ idle-alike done excused tree v u f g (t ∷ tries) (inr passed) =
 abbrev pub tries_at : State → List Attempt → List Try
 tries_at v attempts = all_tries v.number v.shape.stages v.stack v.hand attempts
 
-
 tries-alike : (w stages : ℕ) (stack stack' : List Frame) (hand : Hand) (a : Attempt) → waiting stack' ≡ waiting stack → next_stage stack' ≡ next_stage stack →
     tries_of w stages stack' hand a ≡ tries_of w stages stack hand a
 tries-alike w stages stack stack' hand attempt.PostOwn child next = ap (own_post w) child
@@ -104,14 +102,16 @@ all_tries-append w stages stack hand (x ∷ xs) ys =
     ∙ sym (append_assoc (tries_of w stages stack hand x) (all_tries w stages stack hand xs) (all_tries w stages stack hand ys))
 
 -- ---- one attempt of a list, at a worker that is like the first
-pub attempt-on : {F : Type 0} (done : F → ℕ → Call → Given → F → Type 0) (excused : F → ℕ → Call → F → Type 0) (tree : Tree) (first v u v' : State) (f g f' : F) (a : Attempt) (rest : List Attempt) (turn : Turn) →
+pub attempt-on : {F : Type 0} (done : F → ℕ → Call → Given → F → Type 0) (excused : F → ℕ → Call → F → Type 0) (tree : Tree) (first v u v' : State) (f g f' : F) (a : Attempt)
+    (rest : List Attempt) (turn : Turn) →
     Alike first v → IsTurn done excused tree v f (tries_of v.number v.shape.stages v.stack v.hand a) Idle u g → IsTurn done excused tree u g (tries_at first rest) turn v' f' →
     IsTurn done excused tree v f (tries_at first (a ∷ rest)) turn v' f'
 attempt-on done excused tree first v u v' f g f' a rest turn alike passed later =
     turn-idle done excused tree v u v' f g f' (tries_of first.number first.shape.stages first.stack first.hand a) (tries_at first rest) turn
     (subst (λ ts. IsTurn done excused tree v f ts Idle u g) (of-alike first v a alike) passed) later
 
-pub attempt-made : {F : Type 0} (done : F → ℕ → Call → Given → F → Type 0) (excused : F → ℕ → Call → F → Type 0) (tree : Tree) (first v v' : State) (f f' : F) (a : Attempt) (rest : List Attempt) (turn : Turn) →
+pub attempt-made : {F : Type 0} (done : F → ℕ → Call → Given → F → Type 0) (excused : F → ℕ → Call → F → Type 0) (tree : Tree) (first v v' : State) (f f' : F) (a : Attempt)
+    (rest : List Attempt) (turn : Turn) →
     Alike first v → (turn ≡ Idle → ⊥) → IsTurn done excused tree v f (tries_of v.number v.shape.stages v.stack v.hand a) turn v' f' →
     IsTurn done excused tree v f (tries_at first (a ∷ rest)) turn v' f'
 attempt-made done excused tree first v v' f f' a rest turn alike not_idle made =

@@ -60,7 +60,8 @@ pops-made done excused tree v v' f f' w lowest stage turn same low not_idle made
     (turn-made done excused tree v v' f f' (Step (event.Pop w (stage - 1)) ∷ []) (pops_from w lowest (stage - 1 - lowest)) turn not_idle
     (subst (λ n. IsTurn done excused tree v f (Step (event.Pop n (stage - 1)) ∷ []) turn v' f') same made))
 
-pub other-tried : {F : Type 0} (agrees : F → ℕ → Holding → Type 0) (done : F → ℕ → Call → Given → F → Type 0) (excused : F → ℕ → Call → F → Type 0) (shape : F → Extents) (roots : F → ℕ → ℕ) (tree : Tree)
+pub other-tried : {F : Type 0} (agrees : F → ℕ → Holding → Type 0) (done : F → ℕ → Call → Given → F → Type 0) (excused : F → ℕ → Call → F → Type 0) (shape : F → Extents) (roots : F → ℕ → ℕ)
+    (tree : Tree)
     (v v' : State) (f f' : F) (stage to : ℕ) (made : Event) → IsFirstOther v stage to → made ≡ event.Post v.number stage to → v' ≡ posted stage to v →
     done f v.number (ToPost stage to) Nothing f' → Fits agrees shape roots tree v' f' → Tried agrees done excused shape roots tree v f (PostOther ∷ []) (Did made) v' f'
 other-tried agrees done excused shape roots tree v v' f f' stage to made first same is shared fits =

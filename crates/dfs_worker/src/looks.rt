@@ -1,3 +1,4 @@
+//! The facts by which a worker's attempts are listed, and what its policy is shown.
 ghost use Rattle.std.specs.Prelude.{◌≡◌};
 ghost use Rattle.dfs_worker.specs.Guards.{top_over, child_test_by};
 ghost use Rattle.dfs_worker.specs.Slots.{has_room};

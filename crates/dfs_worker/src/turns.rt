@@ -3,14 +3,11 @@ ghost use Rattle.std.specs.Prelude.{◌≡◌, ◌<◌, ◌≤◌, length, [], �
 ghost use Rattle.dfs_worker.specs.Sound.{IsWorker};
 ghost use Rattle.dfs_worker.specs.Turn.{Fits, Tried, TookTurn, Step, tries_of, all_tries, turn_tries, look_of, is_retire, start_at, idle_after};
 
-use crate::attempts;
-use crate::closing;
 use crate::event::Event;
 use crate::hand::Hand;
-use crate::starts;
-use crate::tries;
 use crate::turn::Turn;
 use crate::worker::Worker;
+use crate::{attempts, closing, starts, tries};
 use bfs_budget::{Attempt, Policy, actions, choice};
 use fabric::Fabric;
 use match_context::Expand;

@@ -19,5 +19,7 @@ post-requires g c =
 pub returns-clause-fits : goal.returns-clause-fits
 returns-clause-fits g c =
     subst (λ v. Fits g.F.Fabric.agrees g.F.Fabric.shape g.F.Fabric.roots (g.X.Expand.tree c.args._x.now) v c.post.new.self) (sym c.post-2.ensures)
-    (posted-fits g.F.Fabric.agrees g.F.Fabric.done g.F.Fabric.shape g.F.Fabric.roots (g.X.Expand.tree c.args._x.now) c.args.worker.now c.args.fabric.now c.post.new.self c.args.stage c.args.to c.requires.fits c.requires.enabled
-    (subst (λ n. Ready g.F.Fabric.agrees g.F.Fabric.done g.F.Fabric.shape g.F.Fabric.roots c.args.fabric.now n (ToPost c.args.stage c.args.to) Nothing c.post.new.self) c.number-w.ensures c.post.ensures))
+    (posted-fits g.F.Fabric.agrees g.F.Fabric.done g.F.Fabric.shape g.F.Fabric.roots (g.X.Expand.tree c.args._x.now) c.args.worker.now c.args.fabric.now c.post.new.self c.args.stage
+    c.args.to c.requires.fits c.requires.enabled
+    (subst (λ n. Ready g.F.Fabric.agrees g.F.Fabric.done g.F.Fabric.shape g.F.Fabric.roots c.args.fabric.now n (ToPost c.args.stage c.args.to) Nothing c.post.new.self) c.number-w.ensures
+    c.post.ensures))

@@ -20,11 +20,12 @@ returns-in-Idle g c =
     let excused = g.F.Fabric.excused in
     let tree = g.X.Expand.tree c.args.x.now in
     let begun = round-begun v c.hand_state.result c.actions-list.result items c.look.result (g.P.Policy.answer c.args.policy.now) c.choice-at.result start
-        c.hand_state.ensures c.actions-list.ensures c.items-attempts.ensures.items c.look.ensures c.choice-at.ensures.chosen c.start_at-start.ensures.start in
+    c.hand_state.ensures c.actions-list.ensures c.items-attempts.ensures.items c.look.ensures c.choice-at.ensures.chosen c.start_at-start.ensures.start in
     record {
       answered =
           subst (λ ts. IsTurn done excused tree v c.args.fabric.now ts c.sweep-in-Idle.result c.sweep-in-Idle.new.worker c.sweep-in-Idle.new.fabric) (sym begun)
-          (parts-on done excused tree v c.sweep.new.worker c.sweep-in-Idle.new.worker c.args.fabric.now c.sweep.new.fabric c.sweep-in-Idle.new.fabric (drop start items) (take start items) c.sweep-in-Idle.result
+          (parts-on done excused tree v c.sweep.new.worker c.sweep-in-Idle.new.worker c.args.fabric.now c.sweep.new.fabric c.sweep-in-Idle.new.fabric (drop start items)
+          (take start items) c.sweep-in-Idle.result
           (subst (λ xs. IsTurn done excused tree v c.args.fabric.now (tries_at v xs) Idle c.sweep.new.worker c.sweep.new.fabric) (rest-is items start) c.in-Idle.ensures.answered)
           c.sweep-in-Idle.ensures.answered);
       fits = c.sweep-in-Idle.ensures.fits;
@@ -39,7 +40,7 @@ returns-in_default g c =
     let excused = g.F.Fabric.excused in
     let tree = g.X.Expand.tree c.args.x.now in
     let begun = round-begun v c.hand_state.result c.actions-list.result items c.look.result (g.P.Policy.answer c.args.policy.now) c.choice-at.result start
-        c.hand_state.ensures c.actions-list.ensures c.items-attempts.ensures.items c.look.ensures c.choice-at.ensures.chosen c.start_at-start.ensures.start in
+    c.hand_state.ensures c.actions-list.ensures c.items-attempts.ensures.items c.look.ensures c.choice-at.ensures.chosen c.start_at-start.ensures.start in
     record {
       answered =
           subst (λ ts. IsTurn done excused tree v c.args.fabric.now ts c.sweep.result c.sweep.new.worker c.sweep.new.fabric) (sym begun)

@@ -1,4 +1,4 @@
-use Rattle.std.proofs.Common.{◌+◌, ◌∷◌, get_or, drop, sym, subst}
+use Rattle.std.proofs.Common.{◌+◌, get_or, drop, sym, subst}
 use Rattle.bfs_budget.specs.declared.tries.Attempt.TheVariants as attempt
 use Rattle.dfs_worker.specs.Turn.{IsTurn, tries_of}
 use Rattle.dfs_worker.proofs.Rounds.{Alike-trans, idle-alike, tries_at, from-place, attempt-on, attempt-made}
@@ -37,7 +37,8 @@ returns-in_default g c =
           c.loop-attempt.invariant.so_far c.one_attempt.result c.one_attempt.new.worker c.one_attempt.new.fabric
           (subst (λ xs. IsTurn done excused tree v c.loop-attempt.fabric (tries_at first xs) c.one_attempt.result c.one_attempt.new.worker c.one_attempt.new.fabric)
           (sym (from-place c.args.attempts.now c.loop-attempt.attempt-index c.loop-attempt-test.true))
-          (attempt-made done excused tree first v c.one_attempt.new.worker c.loop-attempt.fabric c.one_attempt.new.fabric a (drop (c.loop-attempt.attempt-index + 1) c.args.attempts.now) c.one_attempt.result
+          (attempt-made done excused tree first v c.one_attempt.new.worker c.loop-attempt.fabric c.one_attempt.new.fabric a (drop (c.loop-attempt.attempt-index + 1) c.args.attempts.now)
+          c.one_attempt.result
           c.loop-attempt.invariant.alike c.in_default.not-Idle c.one_attempt.ensures.answered));
       fits = c.one_attempt.ensures.fits;
     }
