@@ -2,6 +2,7 @@ mod Added
 mod AstByParts
 mod AstFolds
 mod Cases
+mod Columns
 mod Conjuncts
 mod Days
 pub use Rattle.typed_query.proofs.ExprByParts

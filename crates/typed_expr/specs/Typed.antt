@@ -1,7 +1,7 @@
 -- What a query means, or the first reason why it means nothing.
 use Rattle.std.specs.Prelude.{◌≡◌, ℕ, ◌+◌, ◌==◌, ◌&&◌, Bool, false, not, if◌then◌else◌, List, [], ◌∷◌, ◌++◌, length, map, filter, find, flat_map, fold, Option, Some, None, Result, Ok, Err}
 use Rattle.std.specs.List.{list_any}
-use Rattle.std.specs.Option.{option_and_then}
+use Rattle.std.specs.Option.{option_and_then, option_map}
 use Rattle.std.specs.Str.{bytes_eq}
 use Rattle.adfs_base.specs.declared.value.Kind.TheVariants as kind
 use Rattle.pgql_tree.specs.declared.ast.Ast.{Ast}
@@ -46,6 +46,10 @@ is_called_so name (Some own) = bytes_eq own.name name
 -- the item has this AS name
 abbrev pub is_called : List ℕ → Item → Bool
 is_called name item = is_called_so name item.name
+
+-- an item as that for which its AS name stands
+abbrev pub as_declared : Item → Declared
+as_declared item = record { name = option_map (λ own. own.name) item.name; edge = false }
 
 -- the item that an order key stands for, where it is an AS name alone
 abbrev pub item_of : List Item → AstExpr → Option Item

@@ -1,17 +1,18 @@
 //! All faults of a query.
-ghost use Rattle.std.specs.Prelude.{◌≡◌, ◌++◌, [], IfOk, OnOk, flat_map};
+ghost use Rattle.std.specs.Prelude.{◌≡◌, ◌++◌, [], List, IfOk, OnOk, flat_map, map};
 ghost use Rattle.std.specs.List.{list_any};
+ghost use Rattle.pgql_tree.specs.declared.ast.Item.{Item};
 ghost use Rattle.typed_expr.specs.Kinds as kinds;
 ghost use Rattle.typed_expr.specs.Same as same;
 ghost use Rattle.typed_expr.specs.Typed as spec;
 
 use crate::declarations::Declarations;
 use crate::fault::TypeFault;
-use crate::items::{is_called, item_of};
+use crate::items::{Columns, add_name, item_of};
 use crate::joined::add_disconnected;
 use crate::kinds::{check, first_of, one_part};
 use crate::scope::Scope;
-use adfs_base::{Kind, Name, NoMemory};
+use adfs_base::{Kind, NoMemory};
 use graph_tables::Schema;
 use pgql_tree::{Ast, AstExpr, Item, Key, Placed, same_expr};
 use sqlite_items::Items;
@@ -43,37 +44,35 @@ fn add_item_faults(
     Ok(())
 }
 
-fn is_taken(earlier: &[Item], name: &Name) -> bool
-    ensures { result ≡ list_any (spec.is_called name.now) earlier.now }
-{
-    for item in earlier {
-        if is_called(name, item) {
-            return true;
-        }
-    }
-    false
-}
-
 fn add_double_name(
-    earlier: &[Item],
+    earlier: &Declarations,
     name: &Option<Placed>,
     faults: &mut Items<TypeFault>,
 ) -> Result<(), NoMemory>
-    ensures { OnOk result (faults.new ≡ faults.old ++ spec.double_name earlier.now name.now) }
+    ensures { (items : List Item) → earlier.now ≡ map spec.as_declared items → OnOk result (faults.new ≡ faults.old ++ spec.double_name items name.now) }
 {
     if let Some(placed) = name {
-        if is_taken(earlier, &placed.name) {
+        if earlier.variable_of(&placed.name).is_some() {
             faults.push(TypeFault::DoubleName(placed.at))?;
         }
     }
     Ok(())
 }
 
-fn add_double_names(items: &[Item], faults: &mut Items<TypeFault>) -> Result<(), NoMemory>
-    ensures { OnOk result (faults.new ≡ faults.old ++ spec.double_names [] items.now) }
+// Adds the faults of AS names, and the names.
+fn add_double_names(
+    alloc: Global,
+    items: &[Item],
+    names: &mut Declarations,
+    faults: &mut Items<TypeFault>,
+) -> Result<(), NoMemory>
+    requires { names.old ≡ [] }
+    ensures names { OnOk result (names.new ≡ map spec.as_declared items.now) }
+    ensures faults { OnOk result (faults.new ≡ faults.old ++ spec.double_names [] items.now) }
 {
-    for (place, item) in items.iter().enumerate() {
-        add_double_name(&items[..place], &item.name, faults)?;
+    for item in items {
+        add_double_name(names, &item.name, faults)?;
+        add_name(alloc, item, names)?;
     }
     Ok(())
 }
@@ -113,20 +112,21 @@ fn is_selected(items: &[Item], expr: &AstExpr) -> bool
 }
 
 fn add_key_faults(
-    ast: &Ast,
+    columns: Columns<'_>,
+    distinct: bool,
     key: &Key,
     variables: &Declarations,
     schema: &Schema,
     faults: &mut Items<TypeFault>,
 ) -> Result<(), NoMemory>
-    ensures { OnOk result (faults.new ≡ faults.old ++ spec.key_faults schema.now variables.now ast.now.distinct ast.now.items key.now) }
+    requires { columns.names.now ≡ map spec.as_declared columns.items.now }
+    ensures { OnOk result (faults.new ≡ faults.old ++ spec.key_faults schema.now variables.now distinct columns.entry.items.now key.now) }
 {
-    let items = ast.items.as_slice();
-    match item_of(items, &key.expr) {
+    match item_of(columns, &key.expr) {
         Some(_) => Ok(()),
         None => {
             add_fault(check(&key.expr, variables, schema).kind, faults)?;
-            if ast.distinct && !is_selected(items, &key.expr) {
+            if distinct && !is_selected(columns.items, &key.expr) {
                 faults.push(TypeFault::KeyNotSelected(key.at))?;
             }
             Ok(())
@@ -135,21 +135,45 @@ fn add_key_faults(
 }
 
 fn add_all_key_faults(
-    ast: &Ast,
+    columns: Columns<'_>,
+    distinct: bool,
+    keys: &[Key],
     variables: &Declarations,
     schema: &Schema,
     faults: &mut Items<TypeFault>,
 ) -> Result<(), NoMemory>
-    ensures { OnOk result (faults.new ≡ faults.old ++ flat_map (spec.key_faults schema.now variables.now ast.now.distinct ast.now.items) ast.now.keys) }
+    requires { columns.names.now ≡ map spec.as_declared columns.items.now }
+    ensures { OnOk result (faults.new ≡ faults.old ++ flat_map (spec.key_faults schema.now variables.now distinct columns.entry.items.now) keys.now) }
 {
-    for key in ast.keys.as_slice() {
-        add_key_faults(ast, key, variables, schema, faults)?;
+    for key in keys {
+        add_key_faults(columns, distinct, key, variables, schema, faults)?;
     }
     Ok(())
 }
 
+// Adds the faults that the expressions have, and the AS names.
+fn add_faults_and_names(
+    alloc: Global,
+    ast: &Ast,
+    variables: &Declarations,
+    schema: &Schema,
+    names: &mut Declarations,
+    faults: &mut Items<TypeFault>,
+) -> Result<(), NoMemory>
+    requires { names.old ≡ [] }
+    ensures { OnOk result (faults.new ≡ faults.old ++ spec.expression_faults schema.now variables.now ast.now) }
+{
+    let items = ast.items.as_slice();
+    add_item_faults(items, variables, schema, faults)?;
+    add_double_names(alloc, items, names, faults)?;
+    add_condition_fault(&ast.condition, variables, schema, faults)?;
+    let columns = Columns { items, names };
+    add_all_key_faults(columns, ast.distinct, ast.keys.as_slice(), variables, schema, faults)
+}
+
 // Adds the faults that the expressions have.
 fn add_expression_faults(
+    alloc: Global,
     ast: &Ast,
     variables: &Declarations,
     schema: &Schema,
@@ -157,11 +181,8 @@ fn add_expression_faults(
 ) -> Result<(), NoMemory>
     ensures { OnOk result (faults.new ≡ faults.old ++ spec.expression_faults schema.now variables.now ast.now) }
 {
-    let items = ast.items.as_slice();
-    add_item_faults(items, variables, schema, faults)?;
-    add_double_names(items, faults)?;
-    add_condition_fault(&ast.condition, variables, schema, faults)?;
-    add_all_key_faults(ast, variables, schema, faults)
+    let mut names = Declarations::new(alloc);
+    add_faults_and_names(alloc, ast, variables, schema, &mut names, faults)
 }
 
 fn faults_of(
@@ -175,7 +196,7 @@ fn faults_of(
     let variables = &scope.variables;
     let mut faults = Items::from_slice(alloc, scope.faults.as_slice())?;
     add_disconnected(alloc, scope, &mut faults)?;
-    add_expression_faults(ast, variables, schema, &mut faults)?;
+    add_expression_faults(alloc, ast, variables, schema, &mut faults)?;
     Ok(faults)
 }
 
