@@ -7,8 +7,9 @@ mod Conjuncts
 mod Days
 pub use Rattle.typed_query.proofs.ExprByParts
 mod Flags
+mod Forests
 pub use Rattle.typed_query.proofs.Folds
-mod Groups
+mod Joins
 mod Lists
 mod Meanings
 mod Named

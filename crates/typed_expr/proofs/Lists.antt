@@ -6,9 +6,8 @@ use Rattle.std.specs.Prelude.{fold, min, not, ◌^◌}
 use Rattle.std.proofs.lemmas.List.{length-append}
 use Rattle.std.proofs.lemmas.List.Sums.{fold-append, prefix_len-le-length}
 use Rattle.std.proofs.lemmas.Bool.Decides.{nat_tests}
-use Rattle.typed_expr.specs.Joined.{merged, moved}
 
-drop-front : {X : Type 0} (xs : List X) (i : ℕ) (d : X) → i < length xs → drop i xs ≡ get_or xs i d ∷ drop (i + 1) xs
+pub drop-front : {X : Type 0} (xs : List X) (i : ℕ) (d : X) → i < length xs → drop i xs ≡ get_or xs i d ∷ drop (i + 1) xs
 drop-front [] i d below = absurd (omega arith)
 drop-front (x ∷ xs) zero d below = refl
 drop-front (x ∷ xs) (suc i) d below =
@@ -30,16 +29,6 @@ map-step f whole made more xs i d below so_far is =
     ∙ append_assoc made (f (get_or xs i d) ∷ []) (map f (drop (i + 1) xs))
     ∙ ap (λ rest. made ++ map f rest) (sym (drop-front xs i d below))
     ∙ so_far
-
--- a group is moved, after those before it
-pub merged-step : (from to : ℕ) (old : List ℕ) (i : ℕ) (now : List ℕ) → i < length old → now ≡ take i (merged from to old) ++ drop i old
-    → slice_set now i (moved from to (get_or now i 0)) ≡ take (i + 1) (merged from to old) ++ drop (i + 1) old
-merged-step from to [] i now below is = absurd (omega arith)
-merged-step from to (group ∷ old) zero now below is = ap (λ n. slice_set n 0 (moved from to (get_or n 0 0))) is
-merged-step from to (group ∷ old) (suc i) now below is =
-    ap (λ n. slice_set n (suc i) (moved from to (get_or n (suc i) 0))) is
-    ∙ ap (λ rest. moved from to group ∷ rest) (merged-step from to old i (take i (merged from to old) ++ drop i old) (omega arith) refl)
-    ∙ ap (λ n. take n (merged from to (group ∷ old)) ++ drop n (group ∷ old)) (let same : suc (i + 1) ≡ suc i + 1 = omega arith in same)
 
 -- one number more of a range, and those that are left
 pub range-push : (count number : ℕ) (made more : List ℕ) → number < count → made ++ range_with_len number (count - number) ≡ range_with_len 0 count → more ≡ made ++ number ∷ []
@@ -96,3 +85,6 @@ min-add a b m = omega arith
 
 pub min-add3 : (a b c m : ℕ) → min (min (min a m + min b m) m + min c m) m ≡ min (a + (b + c)) m
 min-add3 a b c m = omega arith
+
+pub from_zero : (i : ℕ) → 0 + i ≡ i
+from_zero i = omega arith

@@ -21,7 +21,7 @@ use Rattle.typed_query.specs.declared.query.Capture.{Capture}
 use Rattle.typed_query.specs.declared.query.Query.{Query}
 use Rattle.typed_expr.specs.declared.scope.Declared.{Declared}
 use Rattle.typed_expr.specs.declared.scope.Scope.{Scope}
-use Rattle.typed_expr.specs.Joined.{disconnected, groups_of}
+use Rattle.typed_expr.specs.Joined.{are_joined, disconnected}
 use Rattle.typed_expr.specs.Kinds.{checked}
 use Rattle.typed_expr.specs.Meaning.{conjuncts, is_and, meant}
 use Rattle.typed_query.specs.Parts.{HasCapturesBelow, HasValidConstants}
@@ -34,7 +34,8 @@ use Rattle.typed_expr.proofs.Added.{IsIn, added-keep, all-added, all-join, all-s
 use Rattle.typed_expr.proofs.Conjuncts as conj
 use Rattle.typed_query.proofs.ExprByParts.{by_parts}
 use Rattle.typed_expr.proofs.Flags.{at_vertex, vertices_and_edges}
-use Rattle.typed_expr.proofs.Groups.{from_zero, in_first_group, tells-groups}
+use Rattle.typed_expr.proofs.Lists.{from_zero}
+use Rattle.typed_expr.proofs.Joins.{all_joined, same-joined}
 use Rattle.typed_expr.proofs.Outcomes.{given}
 use Rattle.typed_expr.proofs.Meanings.{IsCaptured, IsText, NamesVariable, meant-captured, meant-same, meant-valid, text-itself, use-itself, uses-name_variables}
 use Rattle.typed_query.proofs.Parts.{below_left, below_right, left-Binary, right-Binary}
@@ -201,7 +202,7 @@ valid_sides op left right valid = (left-Binary valid op left right refl, right-B
 -- the parts of a list of faults that is empty
 record AreNone (schema : SchemaLists) (ast : Ast) (scope : Scope) : Type 0 where
   declared : scope.faults ≡ []
-  joined : disconnected (groups_of (length scope.variables) scope.links) scope.vertices ≡ []
+  joined : disconnected scope.links scope.vertices ≡ []
   keys : flat_map (spec.key_faults schema scope.variables ast.distinct ast.items) ast.keys ≡ []
 
 none_of : (schema : SchemaLists) (ast : Ast) (scope : Scope) → spec.faults_of schema ast scope ≡ [] → AreNone schema ast scope
@@ -210,7 +211,7 @@ none_of schema ast scope none =
     let condition = spec.condition_faults schema scope.variables ast.condition in
     let doubled = spec.double_names [] ast.items in
     let items = flat_map (λ item. spec.faults_in (checked schema scope.variables item.expr).kind) ast.items in
-    let apart = disconnected (groups_of (length scope.variables) scope.links) scope.vertices in
+    let apart = disconnected scope.links scope.vertices in
     let both = none_of_both (scope.faults ++ apart) (spec.expression_faults schema scope.variables ast) none in
     let pattern = none_of_both scope.faults apart both.0 in
     let expressions = none_of_both (items ++ doubled ++ condition) keys both.1 in
@@ -223,17 +224,14 @@ module _ (schema : SchemaLists) (ast : Ast) (scope : Scope) (texts : List (List 
   edges_same : are_edges (spec.query_of schema ast scope texts) ≡ edges_in scope
   edges_same = edges-variables_from 0 scope.labels scope.variables
 
-  connected : IsSound [] scope → disconnected (groups_of (length scope.variables) scope.links) scope.vertices ≡ [] → (set : ℕ → Bool) → IsClosed (spec.query_of schema ast scope texts) set
+  connected : IsSound [] scope → disconnected scope.links scope.vertices ≡ [] → (set : ℕ → Bool) → IsClosed (spec.query_of schema ast scope texts) set
       → (number : ℕ) → IsVertex (are_edges (spec.query_of schema ast scope texts)) number → set number ≡ true
   connected sound none set closed number is =
-      let groups = groups_of (length scope.variables) scope.links in
       let vertex = subst (λ edges. IsVertex edges number) edges_same is in
-      let within : number < length scope.variables = omega (arith, slice_get_within (edges_in scope) number false vertex, length-map scope.variables (λ v. v.edge)) in
       let linked = sound.follows set (recursion_from_All (λ join. set join.source ≡ set join.target) scope.edges closed.both_or_neither) in
-      let tells = tells-groups set (length scope.variables) scope.links sound.within linked in
-      let first = subst (AllByRecursion (λ n. slice_index groups n ≡ slice_index groups 0)) sound.vertices (in_first_group groups scope.vertices none) in
-      let here = subst (λ n. slice_index groups n ≡ slice_index groups 0) (from_zero number) (at_vertex (λ n. slice_index groups n ≡ slice_index groups 0) 0 (edges_in scope) number first vertex) in
-      sym (tells number within) ∙ ap set here ∙ tells 0 (omega (arith, within)) ∙ closed.has_first
+      let joined = subst (AllByRecursion (λ n. are_joined scope.links 0 n ≡ true)) sound.vertices (all_joined scope.links scope.vertices none) in
+      let here = subst (λ n. are_joined scope.links 0 n ≡ true) (from_zero number) (at_vertex (λ n. are_joined scope.links 0 n ≡ true) 0 (edges_in scope) number joined vertex) in
+      sym (same-joined set scope.links linked 0 number here) ∙ closed.has_first
 
   pub well_formed : 0 < length ast.paths → scope ≡ scope_of ast.paths → spec.faults_of schema ast scope ≡ [] → IsWellFormed (spec.query_of schema ast scope texts)
   well_formed some declared no_fault =

@@ -1,25 +1,53 @@
 -- Which vertices edge patterns join.
-use Rattle.std.specs.Prelude.{ℕ, ◌==◌, not, if◌then◌else◌, List, map, fold, filter, slice_index}
-use Rattle.std.specs.List.{range_with_len}
+use Rattle.std.specs.Prelude.{◌≡◌, ℕ, ◌<◌, ◌≤◌, ◌==◌, ◌&&◌, ◌||◌, Bool, not, List, [], ◌∷◌, length, map, filter, slice_index, sum, All}
 use Rattle.typed_expr.specs.declared.fault.TypeFault.{TypeFault}
 use Rattle.typed_expr.specs.declared.fault.TypeFault.TheVariants as fault
 
-abbrev pub moved : ℕ → ℕ → ℕ → ℕ
-moved from to group = if group == from then to else group
+-- Links join two variables: the two are one, or are joined without the first link, or by way of it.
+unfoldable pub are_joined : List (ℕ × ℕ) → ℕ → ℕ → Bool
+are_joined [] v w = v == w
+are_joined (link ∷ links) v w = are_joined links v w || (are_joined links v link.0 && are_joined links link.1 w) || (are_joined links v link.1 && are_joined links link.0 w)
 
--- the groups with two of them made one
-abbrev pub merged : ℕ → ℕ → List ℕ → List ℕ
-merged from to groups = map (moved from to) groups
+-- the vertices that no links join with the first variable, each at its first pattern
+abbrev pub disconnected : List (ℕ × ℕ) → List (ℕ × ℕ) → List TypeFault
+disconnected links vertices = map (λ vertex. fault.Disconnected vertex.1) (filter (λ vertex. not (are_joined links 0 vertex.0)) vertices)
 
--- two vertices come into one group
-abbrev pub linked_groups : List ℕ → ℕ × ℕ → List ℕ
-linked_groups groups link = merged (slice_index groups link.1) (slice_index groups link.0) groups
+-- of each link the set has both ends or neither
+abbrev pub HasBothOrNeither : (ℕ → Bool) → List (ℕ × ℕ) → Type 0
+HasBothOrNeither set links = All (λ link. set link.0 ≡ set link.1) links
 
--- The group of each of so many variables. Each is alone at first, and each link makes two groups one.
-abbrev pub groups_of : ℕ → List (ℕ × ℕ) → List ℕ
-groups_of count links = fold linked_groups (range_with_len 0 count) links
+-- ---- variables that stand for others, by which the code finds what is joined
 
--- the vertices that aren't in the group of the first variable, each at its first pattern
-abbrev pub disconnected : List ℕ → List (ℕ × ℕ) → List TypeFault
-disconnected groups vertices =
-    map (λ vertex. fault.Disconnected vertex.1) (filter (λ vertex. not (slice_index groups vertex.0 == slice_index groups 0)) vertices)
+-- each variable's is itself or an earlier one
+pub record IsForest (parents : List ℕ) : Type 0 where
+  pub falls : (i : ℕ) → i < length parents → slice_index parents i ≤ i
+
+-- each variable's stands for itself
+pub record IsFlat (parents : List ℕ) : Type 0 where
+  pub stands : (i : ℕ) → i < length parents → slice_index parents (slice_index parents i) ≡ slice_index parents i
+
+-- the set has a variable exactly where it has the one that stands for it
+pub record Respects (set : ℕ → Bool) (parents : List ℕ) : Type 0 where
+  pub same : (i : ℕ) → i < length parents → set (slice_index parents i) ≡ set i
+
+-- what stands for variables was brought nearer, and no set is told otherwise
+pub record IsNearer (old new : List ℕ) : Type 0 where
+  pub as_many : length new ≡ length old
+  pub forest : IsForest new
+  pub respected : (set : ℕ → Bool) → Respects set old → Respects set new
+  pub roots_stay : (i : ℕ) → slice_index old i ≡ i → slice_index new i ≡ i
+  pub no_more : sum new ≤ sum old
+
+-- both ends of a link are among so many variables
+abbrev pub IsWithin : ℕ → ℕ × ℕ → Type 0
+IsWithin count link = (link.0 < count) × (link.1 < count)
+
+-- what stands for the two ends is the same
+abbrev pub Agree : List ℕ → ℕ × ℕ → Type 0
+Agree parents link = slice_index parents link.0 ≡ slice_index parents link.1
+
+-- what stands for variables tells which are joined
+pub record AreGroups (count : ℕ) (links : List (ℕ × ℕ)) (parents : List ℕ) : Type 0 where
+  pub as_many : length parents ≡ count
+  pub respected : (set : ℕ → Bool) → HasBothOrNeither set links → Respects set parents
+  pub agreed : All (Agree parents) links

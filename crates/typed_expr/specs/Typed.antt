@@ -22,7 +22,7 @@ use Rattle.typed_query.specs.declared.query.Variable.{Variable}
 use Rattle.typed_expr.specs.declared.scope.Declared.{Declared}
 use Rattle.typed_expr.specs.declared.scope.Scope.{Scope}
 use Rattle.typed_expr.specs.Faults.{first_of}
-use Rattle.typed_expr.specs.Joined.{disconnected, groups_of}
+use Rattle.typed_expr.specs.Joined.{disconnected}
 use Rattle.typed_expr.specs.Kinds.{Verdict, checked, one_part}
 use Rattle.typed_expr.specs.Meaning.{conjuncts, meant}
 use Rattle.typed_expr.specs.Printed.{printed}
@@ -96,7 +96,7 @@ expression_faults schema variables ast =
 -- all faults of a query whose patterns declare this
 abbrev pub faults_of : SchemaLists → Ast → Scope → List TypeFault
 faults_of schema ast scope =
-    scope.faults ++ disconnected (groups_of (length scope.variables) scope.links) scope.vertices ++ expression_faults schema scope.variables ast
+    scope.faults ++ disconnected scope.links scope.vertices ++ expression_faults schema scope.variables ast
 
 abbrev pub of_condition : {X : Type 0} → (AstExpr → List X) → Option AstExpr → List X
 of_condition f None = []
