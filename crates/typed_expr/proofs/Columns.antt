@@ -1,13 +1,13 @@
 -- What the AS names of items stand for.
-use Rattle.std.proofs.Common.{◌≡◌, ◌∙◌, refl, sym, ap, subst, ℕ, suc, ◌+◌, Bool, true, false, if◌then◌else◌, List, [], ◌∷◌, ◌++◌, length, map, append_assoc, Option, Some, None, arith}
+use Rattle.std.proofs.Common.{◌≡◌, ◌∙◌, refl, sym, ap, ℕ, ◌+◌, Bool, true, false, List, [], ◌∷◌, ◌++◌, length, map, append_assoc, Option, Some, None}
 use Rattle.std.specs.Prelude.{find, is_some}
 use Rattle.std.specs.List.{list_any, slice_get}
 use Rattle.std.specs.Option.{option_map}
 use Rattle.std.proofs.lemmas.List.{length-append}
 use Rattle.pgql_tree.specs.declared.ast.Item.{Item}
 use Rattle.pgql_tree.specs.declared.ast.Placed.{Placed}
-use Rattle.typed_expr.specs.declared.fault.TypeFault.TheVariants as fault
-use Rattle.typed_expr.specs.Names.{is_name, variable_from, variable_of}
+use Rattle.pattern_scope.specs.declared.fault.TypeFault.TheVariants as fault
+use Rattle.pattern_scope.specs.Names.{is_name, variable_from, variable_of}
 use Rattle.typed_expr.specs.Typed.{as_declared, double_name, is_called, is_called_so}
 
 same_test : (name : List ℕ) (own : Option Placed) → is_name name (option_map (λ p. p.name) own) ≡ is_called_so name own

@@ -1,4 +1,3 @@
-mod Added
 mod AstByParts
 mod AstFolds
 mod Cases
@@ -7,12 +6,9 @@ mod Conjuncts
 mod Days
 pub use Rattle.typed_query.proofs.ExprByParts
 mod Flags
-mod Forests
 pub use Rattle.typed_query.proofs.Folds
-mod Joins
 mod Lists
 mod Meanings
-mod Named
 mod Outcomes
 pub use Rattle.typed_query.proofs.Parts
 mod Queries
@@ -22,3 +18,4 @@ mod Scopes
 mod Trees
 pub use Rattle.typed_query.proofs.Validity
 mod Wholes
+mod Written

@@ -4,19 +4,18 @@ use Rattle.std.specs.Prelude.{nat_le, fold}
 use Rattle.std.specs.List.{AllByRecursion, slice_get}
 use Rattle.std.proofs.lemmas.Bool.Decides.{nat_tests}
 use Rattle.std.proofs.lemmas.List.{append-nil, length-append, length-map, map-append}
-use Rattle.std.proofs.lemmas.Option.{slice_get_within}
 use Rattle.adfs_base.specs.declared.limits.TheConstants.{EDGE_VARIABLES, VERTEX_VARIABLES}
 use Rattle.pgql_tree.specs.declared.ast.EdgePat.{EdgePat}
 use Rattle.pgql_tree.specs.declared.ast.Path.{Path}
 use Rattle.pgql_tree.specs.declared.ast.Placed.{Placed}
 use Rattle.pgql_tree.specs.declared.ast.VertexPat.{VertexPat}
-use Rattle.typed_expr.specs.declared.fault.TypeFault.{TypeFault}
-use Rattle.typed_expr.specs.declared.fault.TypeFault.TheVariants as fault
+use Rattle.pattern_scope.specs.declared.fault.TypeFault.{TypeFault}
+use Rattle.pattern_scope.specs.declared.fault.TypeFault.TheVariants as fault
 use Rattle.typed_query.specs.declared.query.EdgeJoin.{EdgeJoin}
-use Rattle.typed_expr.specs.declared.scope.Declared.{Declared}
-use Rattle.typed_expr.specs.declared.scope.Scope.{Scope}
-use Rattle.typed_expr.specs.Names.{is_name, variable_from, variable_of}
-use Rattle.typed_expr.specs.Scope as spec
+use Rattle.pattern_scope.specs.declared.scope.Declared.{Declared}
+use Rattle.pattern_scope.specs.declared.scope.Scope.{Scope}
+use Rattle.pattern_scope.specs.Names.{is_name, variable_from, variable_of}
+use Rattle.pattern_scope.specs.Scope as spec
 use Rattle.typed_query.specs.WellFormed.{IsVertex, JoinsVertices, edges_from, vertices_from}
 use Rattle.typed_expr.proofs.Flags.{edges-push_edge, edges-push_vertex, get-push, get-pushed, vertices-push_edge, vertices-push_vertex}
 use Rattle.typed_expr.proofs.Lists.{from_zero}

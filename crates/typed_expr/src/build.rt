@@ -4,15 +4,15 @@ ghost use Rattle.typed_expr.specs.Meaning as meaning;
 ghost use Rattle.typed_expr.specs.Typed as spec;
 
 use crate::captures::add_captures;
-use crate::declarations::Declarations;
 use crate::expr::Expr;
 use crate::items::{Columns, add_names, item_of};
 use crate::meaning::{Scene, add_conjuncts, meant};
 use crate::printed::printed;
 use crate::query::{EdgeJoin, Query, Variable};
-use crate::scope::{Declared, Scope, copied, copies, name_of};
 use adfs_base::{Name, NoMemory};
 use graph_tables::Schema;
+use pattern_scope::declarations::Declarations;
+use pattern_scope::scope::{Declared, Scope, copied, copies, name_of};
 use pgql_tree::{Ast, AstExpr, Item, Key};
 use sqlite_items::Items;
 use std::alloc::Global;
@@ -141,11 +141,7 @@ fn add_columns(
 }
 
 // The expression that an order key stands for.
-fn key_expr(
-    columns: Columns<'_>,
-    expr: &AstExpr,
-    scene: Scene<'_>,
-) -> Result<Expr, NoMemory>
+fn key_expr(columns: Columns<'_>, expr: &AstExpr, scene: Scene<'_>) -> Result<Expr, NoMemory>
     requires { columns.names.now ≡ map spec.as_declared columns.items.now }
     ensures { IfOk result (λ found. found ≡ meaning.meant scene.entry.schema.now scene.entry.variables.now scene.entry.captures.now scene.entry.texts.now (spec.key_expr columns.entry.items.now expr.now)) }
 {

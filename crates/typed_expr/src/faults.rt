@@ -1,22 +1,32 @@
 //! All faults of a query.
 ghost use Rattle.std.specs.Prelude.{◌≡◌, ◌++◌, [], List, IfOk, OnOk, flat_map, map};
-ghost use Rattle.std.specs.List.{list_any};
+ghost use Rattle.std.specs.Bool.{OnTrue};
 ghost use Rattle.pgql_tree.specs.declared.ast.Item.{Item};
 ghost use Rattle.typed_expr.specs.Kinds as kinds;
-ghost use Rattle.typed_expr.specs.Same as same;
 ghost use Rattle.typed_expr.specs.Typed as spec;
 
-use crate::declarations::Declarations;
-use crate::fault::TypeFault;
 use crate::items::{Columns, add_name, item_of};
-use crate::joined::add_disconnected;
 use crate::kinds::{check, first_of, one_part};
-use crate::scope::Scope;
+use crate::selected::{Selection, add_all_written, is_selected};
 use adfs_base::{Kind, NoMemory};
 use graph_tables::Schema;
-use pgql_tree::{Ast, AstExpr, Item, Key, Placed, same_expr};
+use pattern_scope::declarations::Declarations;
+use pattern_scope::fault::TypeFault;
+use pattern_scope::joined::add_disconnected;
+use pattern_scope::scope::Scope;
+use pgql_tree::{Ast, AstExpr, Item, Key, Placed};
 use sqlite_items::Items;
 use std::alloc::Global;
+use value_text::Texts;
+
+// What the faults of expressions depend on.
+#[derive(Clone, Copy)]
+struct Setting<'a> {
+    alloc: Global,
+    variables: &'a Declarations,
+    schema: &'a Schema,
+    distinct: bool,
+}
 
 fn add_fault(
     verdict: Result<Kind, TypeFault>,
@@ -94,81 +104,129 @@ fn add_condition_fault(
     }
 }
 
-fn is_same(a: &AstExpr, b: &AstExpr) -> bool
-    ensures { result ≡ same.same a.now b.now }
+// With DISTINCT, adds the fault of an order key that is no select item's expression.
+fn add_unselected(
+    alloc: Global,
+    selection: Selection<'_>,
+    distinct: bool,
+    key: &Key,
+    faults: &mut Items<TypeFault>,
+) -> Result<(), NoMemory>
+    requires { OnTrue distinct (selection.texts.now ≡ spec.written selection.items.now) }
+    ensures { OnOk result (faults.new ≡ faults.old ++ spec.not_selected distinct selection.entry.items.now key.now) }
 {
-    same_expr(a, b)
-}
-
-fn is_selected(items: &[Item], expr: &AstExpr) -> bool
-    ensures { result ≡ list_any (λ item. same.same expr.now item.expr) items.now }
-{
-    for item in items {
-        if is_same(expr, &item.expr) {
-            return true;
-        }
+    if !distinct {
+        return Ok(());
     }
-    false
+    if !is_selected(alloc, selection, &key.expr)? {
+        faults.push(TypeFault::KeyNotSelected(key.at))?;
+    }
+    Ok(())
 }
 
 fn add_key_faults(
+    setting: Setting<'_>,
     columns: Columns<'_>,
-    distinct: bool,
+    selection: Selection<'_>,
     key: &Key,
-    variables: &Declarations,
-    schema: &Schema,
     faults: &mut Items<TypeFault>,
 ) -> Result<(), NoMemory>
-    requires { columns.names.now ≡ map spec.as_declared columns.items.now }
-    ensures { OnOk result (faults.new ≡ faults.old ++ spec.key_faults schema.now variables.now distinct columns.entry.items.now key.now) }
+    requires names { columns.names.now ≡ map spec.as_declared columns.items.now }
+    requires same { selection.items.now ≡ columns.items.now }
+    requires texts { OnTrue setting.distinct (selection.texts.now ≡ spec.written selection.items.now) }
+    ensures { OnOk result (faults.new ≡ faults.old ++ spec.key_faults setting.entry.schema.now setting.entry.variables.now setting.entry.distinct columns.entry.items.now key.now) }
 {
     match item_of(columns, &key.expr) {
         Some(_) => Ok(()),
         None => {
-            add_fault(check(&key.expr, variables, schema).kind, faults)?;
-            if distinct && !is_selected(columns.items, &key.expr) {
-                faults.push(TypeFault::KeyNotSelected(key.at))?;
-            }
-            Ok(())
+            add_fault(
+                check(&key.expr, setting.variables, setting.schema).kind,
+                faults,
+            )?;
+            add_unselected(setting.alloc, selection, setting.distinct, key, faults)
         }
     }
 }
 
 fn add_all_key_faults(
+    setting: Setting<'_>,
     columns: Columns<'_>,
-    distinct: bool,
+    selection: Selection<'_>,
     keys: &[Key],
-    variables: &Declarations,
-    schema: &Schema,
     faults: &mut Items<TypeFault>,
 ) -> Result<(), NoMemory>
-    requires { columns.names.now ≡ map spec.as_declared columns.items.now }
-    ensures { OnOk result (faults.new ≡ faults.old ++ flat_map (spec.key_faults schema.now variables.now distinct columns.entry.items.now) keys.now) }
+    requires names { columns.names.now ≡ map spec.as_declared columns.items.now }
+    requires same { selection.items.now ≡ columns.items.now }
+    requires texts { OnTrue setting.distinct (selection.texts.now ≡ spec.written selection.items.now) }
+    ensures { OnOk result (faults.new ≡ faults.old ++ flat_map (spec.key_faults setting.entry.schema.now setting.entry.variables.now setting.entry.distinct columns.entry.items.now) keys.now) }
 {
     for key in keys {
-        add_key_faults(columns, distinct, key, variables, schema, faults)?;
+        add_key_faults(setting, columns, selection, key, faults)?;
     }
     Ok(())
 }
 
-// Adds the faults that the expressions have, and the AS names.
-fn add_faults_and_names(
+// With DISTINCT, adds what is written of the items.
+fn add_written_if(
     alloc: Global,
-    ast: &Ast,
-    variables: &Declarations,
-    schema: &Schema,
-    names: &mut Declarations,
+    distinct: bool,
+    items: &[Item],
+    texts: &mut Texts,
+    first: &mut Items<usize>,
+) -> Result<(), NoMemory>
+    requires { texts.old ≡ [] }
+    ensures { OnOk result (OnTrue distinct (texts.new ≡ spec.written items.now)) }
+{
+    if distinct {
+        add_all_written(alloc, items, texts, first)
+    } else {
+        Ok(())
+    }
+}
+
+// Adds the faults of the order keys.
+fn add_order_faults(
+    setting: Setting<'_>,
+    columns: Columns<'_>,
+    keys: &[Key],
+    texts: &mut Texts,
+    first: &mut Items<usize>,
     faults: &mut Items<TypeFault>,
 ) -> Result<(), NoMemory>
-    requires { names.old ≡ [] }
-    ensures { OnOk result (faults.new ≡ faults.old ++ spec.expression_faults schema.now variables.now ast.now) }
+    requires names { columns.names.now ≡ map spec.as_declared columns.items.now }
+    requires texts { texts.old ≡ [] }
+    ensures { OnOk result (faults.new ≡ faults.old ++ flat_map (spec.key_faults setting.entry.schema.now setting.entry.variables.now setting.entry.distinct columns.entry.items.now) keys.now) }
+{
+    let items = columns.items;
+    add_written_if(setting.alloc, setting.distinct, items, texts, first)?;
+    let selection = Selection {
+        items,
+        texts,
+        first: first.as_slice(),
+    };
+    add_all_key_faults(setting, columns, selection, keys, faults)
+}
+
+// Adds the faults that the expressions have, and what items are looked up by.
+fn add_faults_and_index(
+    setting: Setting<'_>,
+    ast: &Ast,
+    names: &mut Declarations,
+    texts: &mut Texts,
+    first: &mut Items<usize>,
+    faults: &mut Items<TypeFault>,
+) -> Result<(), NoMemory>
+    requires names { names.old ≡ [] }
+    requires texts { texts.old ≡ [] }
+    requires distinct { setting.distinct ≡ ast.now.distinct }
+    ensures { OnOk result (faults.new ≡ faults.old ++ spec.expression_faults setting.entry.schema.now setting.entry.variables.now ast.now) }
 {
     let items = ast.items.as_slice();
-    add_item_faults(items, variables, schema, faults)?;
-    add_double_names(alloc, items, names, faults)?;
-    add_condition_fault(&ast.condition, variables, schema, faults)?;
+    add_item_faults(items, setting.variables, setting.schema, faults)?;
+    add_double_names(setting.alloc, items, names, faults)?;
+    add_condition_fault(&ast.condition, setting.variables, setting.schema, faults)?;
     let columns = Columns { items, names };
-    add_all_key_faults(columns, ast.distinct, ast.keys.as_slice(), variables, schema, faults)
+    add_order_faults(setting, columns, ast.keys.as_slice(), texts, first, faults)
 }
 
 // Adds the faults that the expressions have.
@@ -181,8 +239,16 @@ fn add_expression_faults(
 ) -> Result<(), NoMemory>
     ensures { OnOk result (faults.new ≡ faults.old ++ spec.expression_faults schema.now variables.now ast.now) }
 {
+    let setting = Setting {
+        alloc,
+        variables,
+        schema,
+        distinct: ast.distinct,
+    };
     let mut names = Declarations::new(alloc);
-    add_faults_and_names(alloc, ast, variables, schema, &mut names, faults)
+    let mut texts = Texts::new(alloc);
+    let mut first = Items::new(alloc);
+    add_faults_and_index(setting, ast, &mut names, &mut texts, &mut first, faults)
 }
 
 fn faults_of(

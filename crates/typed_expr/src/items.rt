@@ -3,9 +3,9 @@ ghost use Rattle.std.specs.Prelude.{◌≡◌, ◌∷◌, ◌++◌, [], OnOk, fi
 ghost use Rattle.std.specs.Option.{option_copied};
 ghost use Rattle.typed_expr.specs.Typed as spec;
 
-use crate::declarations::Declarations;
-use crate::scope::{Declared, name_of};
 use adfs_base::{Name, NoMemory};
+use pattern_scope::declarations::Declarations;
+use pattern_scope::scope::{Declared, name_of};
 use pgql_tree::{AstExpr, Item};
 use sqlite_items::at;
 use std::alloc::Global;

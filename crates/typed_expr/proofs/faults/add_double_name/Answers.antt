@@ -1,6 +1,6 @@
 use Rattle.std.proofs.Common.{◌∙◌, ◌++◌, sym, ap}
 use Rattle.std.proofs.lemmas.List.{append-nil}
-use Rattle.typed_expr.specs.Names.{variable_of}
+use Rattle.pattern_scope.specs.Names.{variable_of}
 use Rattle.typed_expr.specs.Typed.{double_name}
 use Rattle.typed_expr.proofs.Columns.{double-told, single-told}
 use Rattle.typed_expr.proofs.faults.add_double_name.Goals as goal

@@ -1,5 +1,5 @@
 use Rattle.std.proofs.Common.{◌∙◌, sym, ap}
-use Rattle.typed_expr.specs.Names.{variable_of}
+use Rattle.pattern_scope.specs.Names.{variable_of}
 use Rattle.typed_expr.proofs.Columns.{find_item, item_in}
 use Rattle.typed_expr.proofs.items.item_called.Goals as goal
 
