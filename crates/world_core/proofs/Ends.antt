@@ -49,7 +49,7 @@ get-slot [] i x e = absurd (none-some (Some x) e)
 get-slot (y ∷ ys) zero x e = cc
 get-slot (y ∷ ys) (suc i) x e = get-slot ys i x e
 
-total-none : {A : Type 0} (f : A → ℕ) (xs : List A) → ((i : ℕ) (x : A) → slice_get xs i ≡ Some x → f x ≡ 0) → total f xs ≡ 0
+pub total-none : {A : Type 0} (f : A → ℕ) (xs : List A) → ((i : ℕ) (x : A) → slice_get xs i ≡ Some x → f x ≡ 0) → total f xs ≡ 0
 total-none f [] none = refl
 total-none f (x ∷ xs) none = let a = none 0 x refl in let b = total-none f xs (λ i y e. none (suc i) y e) in omega arith
 

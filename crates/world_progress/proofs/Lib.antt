@@ -1,2 +1,3 @@
-pub mod Sums
 pub mod Hands
+pub mod Stuck
+pub mod Sums
