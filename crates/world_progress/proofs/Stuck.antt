@@ -119,9 +119,9 @@ child-blocked w i v f fs child sound stuck at stack wait (inr far) =
     let credit = sound.tables.shape.some_credit in
     elim (cases_lt (used_at w.shared v.machine (f.stage + 1) child.1) (limit_of w.shared.shape v.machine child.1)) [
       | inl left ↦ (let test : nat_lt (used_at w.shared v.machine (f.stage + 1) child.1) (limit_of w.shared.shape v.machine child.1) ≡ true = grind (arith, nat_tests) in
-        let waits : waiting v.stack ≡ Some (f.stage + 1, child.1) = ap waiting stack ∙ ap (λ o. waiting_by (f.stage + 1) o) wait in
-        let can = ap (can_charge_for w.shared v.machine) waits ∙ test in
-        absurd (stuck (event.Charge i) (enabled w i v (event.Charge i) at refl (charge-own v f fs child (free w i v sound stuck at) stack wait none) (ap (λ t. must t guard.Limit None) can))))
+          let waits : waiting v.stack ≡ Some (f.stage + 1, child.1) = ap waiting stack ∙ ap (λ o. waiting_by (f.stage + 1) o) wait in
+          let can = ap (can_charge_for w.shared v.machine) waits ∙ test in
+          absurd (stuck (event.Charge i) (enabled w i v (event.Charge i) at refl (charge-own v f fs child (free w i v sound stuck at) stack wait none) (ap (λ t. must t guard.Limit None) can))))
       | inr full ↦ record { to = child.1; unit = unit; some = omega arith }
     ]
 
@@ -278,7 +278,7 @@ unused-from w (suc left) k sound stuck low m j n unit from =
     elim (cases_lt k j) [
       | inl late ↦ later m j n unit (omega arith)
       | inr early ↦ (let same : j ≡ k = omega arith in
-        subst (λ x. used_at w.shared m x n ≡ 0) (sym same) (stage-unused w m k n sound stuck (tops-below w k sound stuck later) (subst (λ x. IsUnit w.shared m x n) same unit)))
+          subst (λ x. used_at w.shared m x n ≡ 0) (sym same) (stage-unused w m k n sound stuck (tops-below w k sound stuck later) (subst (λ x. IsUnit w.shared m x n) same unit)))
     ]
 
 pub unused : (w : World) (m k n : ℕ) → Sound w → IsStuck w → IsUnit w.shared m k n → used_at w.shared m k n ≡ 0
