@@ -93,3 +93,11 @@ leaves tree w e i v v' h r law fits sound g same read made =
       work = stepped-works tree w (world_of (slice_set w.workers i v') h) e r law fits sound step;
       closes = stepped-closes tree w (world_of (slice_set w.workers i v') h) e r law fits sound step;
     }
+
+pub done-ok : (P : Type 0) (r : Result (Unit {0}) base.NoMemory) → IfDone (stepped_of r) P → OnOk r P
+done-ok P (Ok u) p = p
+done-ok P (Err x) p = tt
+
+pub ok-done : (P : Type 0) (r : Result (Unit {0}) base.NoMemory) → OnOk r P → IfDone (stepped_of r) P
+ok-done P (Ok u) p = p
+ok-done P (Err x) p = tt

@@ -33,5 +33,6 @@ mod stepped;
 mod world;
 
 pub use dfs_worker::{Event, Guard};
+pub use guards::worker_of;
 pub use stepped::Stepped;
 pub use world::World;

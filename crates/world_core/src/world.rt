@@ -1,4 +1,6 @@
-ghost use Rattle.std.specs.Prelude.{◌≡◌, ◌*◌, ◌<◌, ◌≤◌, ◌↔◌, IsTrue, IfOk, length};
+ghost use Rattle.std.specs.Prelude.{◌≡◌, ◌*◌, ◌<◌, ◌≤◌, ◌↔◌, IsTrue, IfOk, OnOk, length, slice_get, Some, None};
+ghost use Rattle.dfs_worker.specs.Sound.{IsWorker};
+ghost use Rattle.world_core.specs.Sound.{Sound};
 ghost use Rattle.world_core.specs.Reach.{CanReach};
 ghost use Rattle.world_core.specs.Rows.{IsFinished};
 ghost use Rattle.adfs_base.specs.Shape.{IsShape};
@@ -49,9 +51,20 @@ fn stepped(made: Result<(), NoMemory>) -> Stepped
 impl World {
     /// The workers, in the order of their numbers.
     pub fn workers(&self) -> &[Worker]
-        ensures { result.now ≡ self.now.workers }
+        ensures workers { result.now ≡ self.now.workers }
+        ensures sound { Sound self.now }
     {
         &self.workers
+    }
+
+    /// The worker of this number.
+    pub fn worker(&self, w: u32) -> &Worker
+        requires { w < length self.now.workers }
+        ensures at { slice_get self.now.workers w ≡ Some result.now }
+        ensures worker { IsWorker result.now }
+        ensures sound { Sound self.now }
+    {
+        &self.workers[w as usize]
     }
 
     /// What they share.
@@ -81,6 +94,13 @@ impl World {
         ensures { result ≡ guard_of self.now event.now }
     {
         let _ = x;
+        self.guard(event)
+    }
+
+    /// The same, which no tree has a say in.
+    pub fn guard(&self, event: &Event) -> Option<Guard>
+        ensures { result ≡ guard_of self.now event.now }
+    {
         first_guard(&self.workers, &self.fabric, event)
     }
 
@@ -93,11 +113,25 @@ impl World {
         ensures work { IfDone result (work_left (X.tree x.now) self.new < work_left (X.tree x.now) self.old) }
         ensures closed { self.old.shared.closed ≤ self.new.shared.closed }
     {
-        if let Some(guard) = first_guard(&self.workers, &self.fabric, event) {
-            return Stepped::NotEnabled(guard);
+        match self.guard(event) {
+            Some(guard) => Stepped::NotEnabled(guard),
+            None => stepped(self.make(x, event)),
         }
+    }
+
+    /// Makes the change of an event all of whose guards hold. After `NoMemory`, which only a row may meet, nothing is
+    /// changed.
+    pub fn make<X: Expand>(&mut self, x: &X, event: &Event) -> Result<(), NoMemory>
+        requires fits { Fits (X.tree x.now) self.old.shared }
+        requires enabled { guard_of self.old event.now ≡ None }
+        ensures stepped { IsStepped (X.tree x.now) self.old event.now (stepped_of result) self.new }
+        ensures fits { Fits (X.tree x.now) self.new.shared }
+        ensures owed { (row : _) → owed row (X.tree x.now) self.old ≡ owed row (X.tree x.now) self.new }
+        ensures work { OnOk result (work_left (X.tree x.now) self.new < work_left (X.tree x.now) self.old) }
+        ensures closed { self.old.shared.closed ≤ self.new.shared.closed }
+    {
         let at = worker_of(event) as usize;
-        stepped(make(&mut self.workers[at], &mut self.fabric, x, event))
+        make(&mut self.workers[at], &mut self.fabric, x, event)
     }
 }
 
