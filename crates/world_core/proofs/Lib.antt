@@ -9,6 +9,7 @@ pub mod Moves
 pub mod Moving
 pub mod Parts
 pub mod Past
+pub mod Rowless
 pub mod Starts
 pub mod Steps
 pub mod Travels

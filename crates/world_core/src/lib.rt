@@ -27,6 +27,7 @@
 #![tactic(auto)]
 
 mod events;
+mod gather;
 mod guards;
 pub mod laws;
 mod stepped;

@@ -1,22 +1,23 @@
-ghost use Rattle.std.specs.Prelude.{◌≡◌, ◌*◌, ◌<◌, ◌≤◌, ◌↔◌, IsTrue, IfOk, OnOk, length, slice_get, Some, None};
+ghost use Rattle.std.specs.Prelude.{◌≡◌, ◌*◌, ◌<◌, ◌≤◌, ◌↔◌, IsTrue, IfOk, OnOk, OnErr, length, slice_get, Some, None};
 ghost use Rattle.dfs_worker.specs.Sound.{IsWorker};
 ghost use Rattle.world_core.specs.Sound.{Sound};
 ghost use Rattle.world_core.specs.Reach.{CanReach};
-ghost use Rattle.world_core.specs.Rows.{IsFinished};
+ghost use Rattle.world_core.specs.Rows.{IsFinished, all_rows, without_rows};
 ghost use Rattle.adfs_base.specs.Shape.{IsShape};
 ghost use Rattle.world_core.specs.Owed.{owed};
 ghost use Rattle.world_core.specs.Step.{guard_of};
 ghost use Rattle.world_core.specs.Stepped.{IsStepped, IfDone, stepped_of};
 ghost use Rattle.world_core.specs.Work.{work_left};
-ghost use Rattle.world_core.specs.World.{Fits, fresh_workers, roots_of, start_world};
+ghost use Rattle.world_core.specs.World.{Fits, world_of, fresh_workers, roots_of, start_world};
 
 use crate::events::make;
+use crate::gather::{gather, row_count};
 use crate::guards::{first_guard, worker_of};
 use crate::stepped::Stepped;
 use adfs_base::{NoMemory, Shape};
 use dfs_worker::{Event, Guard, Worker};
 use fabric::PlainFabric;
-use match_context::Expand;
+use match_context::{Context, Expand};
 use std::alloc::Global;
 use std::marker::Model;
 
@@ -132,6 +133,21 @@ impl World {
     {
         let at = worker_of(event) as usize;
         make(&mut self.workers[at], &mut self.fabric, x, event)
+    }
+}
+
+impl World {
+    /// Hands out the rows of all workers, in the order of the workers, and leaves none. After `NoMemory` all is as before.
+    pub fn take_rows(&mut self, alloc: Global) -> Result<Vec<Context>, NoMemory>
+        ensures rows { IfOk result (λ rows. rows.items ≡ all_rows self.old.workers) }
+        ensures left { OnOk result (self.new ≡ world_of (without_rows self.old.workers) self.old.shared) }
+        ensures err { OnErr result (self.new ≡ self.old) }
+    {
+        let Some(count) = row_count(&self.workers) else {
+            return Err(NoMemory);
+        };
+        let room = Vec::with_capacity(alloc, count)?;
+        Ok(gather(&mut self.workers, room, count))
     }
 }
 

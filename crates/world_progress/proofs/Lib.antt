@@ -1,3 +1,4 @@
 pub mod Hands
 pub mod Stuck
 pub mod Sums
+pub mod Tries

@@ -6,4 +6,11 @@
 //! it was reached.
 #![tactic(auto)]
 
+mod attempts;
+mod choice;
 pub mod laws;
+mod run;
+mod steps;
+
+pub use run::{policy_event, rows_of_tree, run_to_end, some_event};
+pub use steps::Steps;
