@@ -1,4 +1,5 @@
 pub mod Hands
+pub mod Runs
 pub mod Stuck
 pub mod Sums
 pub mod Tries

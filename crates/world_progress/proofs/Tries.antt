@@ -277,5 +277,5 @@ parts-fail w i start xs late early at x e =
     elim (cases_lt at start) [
       | inl before ↦ early at x (take-get start xs at before ∙ e)
       | inr after ↦ (let back : start + (at - start) ≡ at = omega arith in
-        late (at - start) x (take-get (length xs - start) (drop start xs) (at - start) (omega arith) ∙ drop-get start xs (at - start) ∙ ap (slice_get xs) back ∙ e))
+          late (at - start) x (take-get (length xs - start) (drop start xs) (at - start) (omega arith) ∙ drop-get start xs (at - start) ∙ ap (slice_get xs) back ∙ e))
     ]

@@ -2,6 +2,7 @@
 ghost use Rattle.std.specs.Prelude.{◌≡◌, ℕ, ◌<◌, ◌≤◌, None, IfSome, IfNone, length};
 ghost use Rattle.dfs_worker.specs.State.{is_free, is_over};
 ghost use Rattle.world_core.specs.Rows.{IsFinished};
+ghost use Rattle.world_core.specs.Sound.{Sound};
 ghost use Rattle.world_core.specs.Step.{guard_of};
 ghost use Rattle.world_progress.specs.Choice.{IsNext, AllFail, waiting_list, empty_list};
 ghost use Rattle.world_progress.specs.Stuck.{IsIdle};
@@ -116,6 +117,7 @@ pub fn next_event<P: Policy>(world: &World, policy: &mut P, from: u32) -> Option
     requires { from ≤ length world.now.workers }
     ensures some { IfSome result (λ e. guard_of world.now e ≡ None) }
     ensures none { IfNone result (IsFinished world.now) }
+    ensures sound { Sound world.now }
 {
     let count = world.workers().len() as u32;
     let event = first_from(world, policy, from, count);

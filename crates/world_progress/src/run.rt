@@ -5,6 +5,7 @@ ghost use Rattle.match_context.specs.Bags.{SameBag};
 ghost use Rattle.match_context.specs.Leaves.{tree_leaves};
 ghost use Rattle.world_core.specs.Owed.{owed};
 ghost use Rattle.world_core.specs.Rows.{IsFinished};
+ghost use Rattle.world_core.specs.Sound.{Sound};
 ghost use Rattle.world_core.specs.Step.{Run, guard_of};
 ghost use Rattle.world_core.specs.Work.{work_left};
 ghost use Rattle.world_core.specs.World.{Fits};
@@ -54,6 +55,7 @@ pub fn run_to_end<X: Expand, P: Policy, L: Ledger>(
 ) -> Result<(), NoMemory>
     requires { Fits (X.tree x.now) world.old.shared }
     ensures finished { OnOk result (IsFinished world.new) }
+    ensures sound { OnOk result (Sound world.new) }
     ensures run { (events : List Event) × Run (X.tree x.now) world.old events world.new }
     ensures fits { Fits (X.tree x.now) world.new.shared }
     ensures owed { (row : _) → owed row (X.tree x.now) world.old ≡ owed row (X.tree x.now) world.new }

@@ -11,8 +11,8 @@ pub loop-attempt-preserved : goal.loop-attempt-preserved
 loop-attempt-preserved c = λ at x low e. elim (cases_lt at c.loop-attempt.attempt-index) [
   | inl before ↦ c.loop-attempt.invariant at x before e
   | inr late ↦ (let same : c.loop-attempt.attempt-index ≡ at = omega arith in
-    subst (Fails c.args.world.now c.args.w) (ap (λ i. get_or c.args.attempts.now i attempt.Hand) same ∙ get_or_from_slice_get c.args.attempts.now at x attempt.Hand e)
-    (none-of _ c.event_of-event.result c.is_some.result c.is_some.ensures c.if-is_some.false c.event_of-event.ensures.none))
+      subst (Fails c.args.world.now c.args.w) (ap (λ i. get_or c.args.attempts.now i attempt.Hand) same ∙ get_or_from_slice_get c.args.attempts.now at x attempt.Hand e)
+      (none-of _ c.event_of-event.result c.is_some.result c.is_some.ensures c.if-is_some.false c.event_of-event.ensures.none))
 ]
 
 pub returns-clause-none : goal.returns-clause-none

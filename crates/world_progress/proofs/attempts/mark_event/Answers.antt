@@ -10,8 +10,8 @@ pub loop-a-preserved : goal.loop-a-preserved
 loop-a-preserved c = λ a b low here enabled. elim (cases_lt a c.loop-a.a) [
   | inl before ↦ c.loop-a.invariant a b before here enabled
   | inr late ↦ (let same : a ≡ c.loop-a.a = omega arith in
-    none-of _ c.mark_of-event.result c.is_some.result c.is_some.ensures c.if-is_some.false c.mark_of-event.ensures.none b here
-    (subst (λ x. guard_of c.args.world.now (event.Mark c.args.w x b) ≡ None) same enabled))
+      none-of _ c.mark_of-event.result c.is_some.result c.is_some.ensures c.if-is_some.false c.mark_of-event.ensures.none b here
+      (subst (λ x. guard_of c.args.world.now (event.Mark c.args.w x b) ≡ None) same enabled))
 ]
 
 pub returns-clause-none : goal.returns-clause-none
