@@ -1,4 +1,6 @@
 pub mod Bodies
+pub mod Bounds
+pub mod Gauges
 pub mod Happens
 pub mod Inboxes
 pub mod Made

@@ -25,10 +25,12 @@
 #![tactic(auto)]
 
 mod events;
+mod gauge;
 mod guards;
 mod stepped;
 mod world;
 
 pub use dfs_worker::{Event, Guard};
+pub use gauge::Gauge;
 pub use stepped::Stepped;
 pub use world::World;

@@ -1,6 +1,7 @@
 ghost use Rattle.std.specs.Prelude.{◌≡◌, ◌*◌, IfOk, length};
 ghost use Rattle.adfs_base.specs.Shape.{IsShape};
 ghost use Rattle.world_core.specs.Owed.{owed};
+ghost use Rattle.world_core.specs.Sound.{Sound};
 ghost use Rattle.world_core.specs.Step.{guard_of};
 ghost use Rattle.world_core.specs.Stepped.{IsStepped, stepped_of};
 ghost use Rattle.world_core.specs.World.{Fits, fresh_workers, roots_of, start_world};
@@ -46,7 +47,8 @@ fn stepped(made: Result<(), NoMemory>) -> Stepped
 impl World {
     /// The workers, in the order of their numbers.
     pub fn workers(&self) -> &[Worker]
-        ensures { result.now ≡ self.now.workers }
+        ensures workers { result.now ≡ self.now.workers }
+        ensures sound { Sound self.now }
     {
         &self.workers
     }
