@@ -1,4 +1,4 @@
-ghost use Rattle.std.specs.Prelude.{◌≡◌, ◌<◌, ◌≤◌, ◌*◌, ◌/◌, ◌++◌, [], ◌∷◌, reverse, length, IfOk, IfSome, IfNone, OnOk, OnErr, MatchOption, Some, None, true};
+ghost use Rattle.std.specs.Prelude.{◌≡◌, ◌<◌, ◌≤◌, ◌*◌, ◌/◌, ◌++◌, [], ◌∷◌, reverse, length, IfOk, IfSome, IsSomeAnd, IfNone, OnOk, OnErr, MatchOption, Some, None, true};
 
 use crate::hand::Hand;
 use crate::outbox::Outbox;
@@ -128,7 +128,7 @@ impl Worker {
     /// The buffer that is open for a stage and a machine.
     pub fn buffer(&self, stage: u32, to: u32) -> Option<&Buffer>
         ensures { MatchOption result (open_at self.now.slots stage to ≡ None)
-            (λ b. IfSome (open_at self.now.slots stage to) (λ m. m.items ≡ b.now)) }
+            (λ b. IsSomeAnd (open_at self.now.slots stage to) (λ m. m.items ≡ b.now)) }
     {
         match self.outbox.message(stage, to) {
             Some(message) => Some(&message.items),

@@ -1,7 +1,7 @@
 -- What stands outside the pools of a sound world is within its bound.
-use Rattle.std.proofs.Common.{◌≡◌, ℕ, ◌+◌, ◌-◌, ◌*◌, ◌^◌, ◌<◌, ◌≤◌, Bool, true, false, cond, ◌&&◌, ◌==◌, eqb, ltb, List, [], ◌∷◌, length, get_or, ◌≢◌, Option, Some, None, refl, sym, ap, subst, ◌∙◌, arith, add-one, zero, suc}
-use Rattle.std.specs.Prelude.{slice_get, slice_index_or, nat_lt}
-use Rattle.std.proofs.Math.Nat.{mul-le-mul, mul-le-mul_left, mul_comm, mul_assoc}
+use Rattle.std.proofs.Common.{◌≡◌, ℕ, ◌+◌, ◌-◌, ◌*◌, ◌<◌, ◌≤◌, Bool, true, false, cond, ◌&&◌, eqb, List, [], ◌∷◌, length, get_or, ◌≢◌, Option, Some, None, refl, sym, ap, subst, ◌∙◌, arith, zero, suc}
+use Rattle.std.specs.Prelude.{slice_get, nat_lt}
+use Rattle.std.proofs.Math.Nat.{mul-le-mul, mul-le-mul_left}
 use Rattle.std.proofs.lemmas.Bool.{eqb-false}
 use Rattle.std.proofs.lemmas.Option.{get_or_from_slice_get}
 use Rattle.adfs_base.specs.Shape.{Extents, IsShape, pool_of, need_of, contexts_of}
@@ -11,19 +11,18 @@ use Rattle.match_context.specs.declared.frame.Frame.{Frame}
 use Rattle.match_context.specs.declared.frame.Rest.{Rest}
 use Rattle.match_context.specs.declared.frame.Rest.TheVariants as rest
 use Rattle.match_context.specs.declared.message.Message.{Message}
-use Rattle.fabric.specs.Shared.{Shared, IsShared, inbox_place, inbox_at, pool_at}
+use Rattle.fabric.specs.Shared.{Shared, IsShared, inbox_at}
 use Rattle.dfs_worker.specs.declared.hand.Hand.{Hand}
 use Rattle.dfs_worker.specs.declared.hand.Hand.TheVariants.{Free, Charged, Posted, Popped, Emptied}
-use Rattle.dfs_worker.specs.Census.{Census, count, buffers_of, one, of_slot, of_hand, of_rest, of_stack}
+use Rattle.dfs_worker.specs.Census.{count, buffers_of, one, of_slot, of_hand, of_rest, of_stack}
 use Rattle.dfs_worker.specs.Sound.{IsWorker, IsStack, StandsOn, IsHand, AreSlots}
 use Rattle.dfs_worker.specs.State.{State, next_stage}
 use Rattle.dfs_worker.proofs.Stacks.{stack-fits, top-low}
 use Rattle.world_core.specs.Bound.{Bound}
 use Rattle.world_core.specs.Gauge.{in_slot, in_hand, in_rest, in_frame, in_worker, messages_of, in_inbox, in_machine, in_inboxes, outside, one_buffer, its_contexts, children, at_frame, at_worker, gauge_of}
 use Rattle.world_core.specs.Owed.{total_below}
-use Rattle.world_core.specs.Sound.{Sound, AreMessages, homes_in}
+use Rattle.world_core.specs.Sound.{Sound, AreMessages}
 use Rattle.world_core.specs.World.{World}
-use Rattle.world_core.proofs.Gauges.{below-next}
 
 -- ---- sums of what is smaller
 -- what is no more at each place is no more in all

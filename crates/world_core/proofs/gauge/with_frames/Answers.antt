@@ -1,4 +1,4 @@
-use Rattle.std.proofs.Common.{refl, arith}
+use Rattle.std.proofs.Common.{arith}
 use Rattle.world_core.specs.Gauge.{in_frame, at_frame, one_buffer, its_contexts}
 use Rattle.world_core.proofs.Gauges.{sum-fits, sum-next, sums-fit, sums-next}
 use Rattle.world_core.proofs.gauge.with_frames.Goals as goal

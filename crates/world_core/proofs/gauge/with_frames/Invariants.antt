@@ -1,4 +1,4 @@
-use Rattle.std.proofs.Common.{◌≡◌, ℕ, ◌+◌, take}
+use Rattle.std.proofs.Common.{◌≡◌, ◌+◌, take}
 use Rattle.match_context.specs.Bags.{total}
 use Rattle.world_core.specs.Gauge.{in_frame, at_frame, one_buffer, its_contexts}
 use Rattle.world_core.proofs.gauge.with_frames.Given as goal

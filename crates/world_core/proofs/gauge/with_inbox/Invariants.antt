@@ -1,4 +1,4 @@
-use Rattle.std.proofs.Common.{◌≡◌, ℕ, ◌+◌, take}
+use Rattle.std.proofs.Common.{◌≡◌, ◌+◌, take}
 use Rattle.match_context.specs.Bags.{total}
 use Rattle.fabric.specs.Shared.{inbox_at}
 use Rattle.world_core.specs.Gauge.{messages_of, one_buffer, its_contexts}

@@ -1,4 +1,4 @@
-use Rattle.std.proofs.Common.{◌≡◌, ℕ, ◌+◌}
+use Rattle.std.proofs.Common.{◌≡◌, ◌+◌}
 use Rattle.world_core.specs.Gauge.{in_machine, one_buffer, its_contexts}
 use Rattle.world_core.specs.Owed.{total_below}
 use Rattle.world_core.proofs.gauge.with_inboxes.Given as goal

@@ -1,4 +1,4 @@
-use Rattle.std.proofs.Common.{◌≡◌, ℕ, ◌+◌}
+use Rattle.std.proofs.Common.{◌≡◌, ◌+◌}
 use Rattle.fabric.specs.Shared.{inbox_at}
 use Rattle.world_core.specs.Gauge.{in_inbox, one_buffer, its_contexts}
 use Rattle.world_core.specs.Owed.{total_below}

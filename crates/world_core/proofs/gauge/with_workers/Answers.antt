@@ -1,4 +1,4 @@
-use Rattle.std.proofs.Common.{refl, sym, ap, ◌∙◌, Some, arith}
+use Rattle.std.proofs.Common.{sym, ap, ◌∙◌, Some, arith}
 use Rattle.std.proofs.lemmas.Option.{slice_get-get_or}
 use Rattle.world_core.specs.Gauge.{in_worker, at_worker, one_buffer, its_contexts}
 use Rattle.world_core.proofs.Gauges.{sum-fits, sum-next, sums-fit, sums-next}

@@ -1,8 +1,7 @@
-use Rattle.std.proofs.Common.{sym, ap, subst, ◌∙◌, arith}
+use Rattle.std.proofs.Common.{sym, ap, ◌∙◌, arith}
 use Rattle.std.specs.Prelude.{slice_get}
 use Rattle.match_context.specs.Bags.{total}
-use Rattle.world_core.specs.Bound.{Bound}
-use Rattle.world_core.specs.Gauge.{in_worker, in_inboxes, one_buffer, its_contexts, at_worker, gauge_of}
+use Rattle.world_core.specs.Gauge.{in_worker, in_inboxes, one_buffer, its_contexts, at_worker}
 use Rattle.world_core.proofs.Bounds.{bounded, small}
 use Rattle.world_core.proofs.world.World.gauge.Goals as goal
 
