@@ -6,23 +6,30 @@ use Rattle.std.proofs.lemmas.Bool.{eqb-false}
 use Rattle.std.proofs.lemmas.Option.{get_or_from_slice_get}
 use Rattle.adfs_base.specs.Shape.{Extents, IsShape, pool_of, need_of, contexts_of}
 use Rattle.match_context.specs.Bags.{total}
+use Rattle.match_context.specs.Tree.{Tree, IsTree}
 use Rattle.match_context.specs.declared.context.Context.{Context}
 use Rattle.match_context.specs.declared.frame.Frame.{Frame}
 use Rattle.match_context.specs.declared.frame.Rest.{Rest}
 use Rattle.match_context.specs.declared.frame.Rest.TheVariants as rest
 use Rattle.match_context.specs.declared.message.Message.{Message}
 use Rattle.fabric.specs.Shared.{Shared, IsShared, inbox_at}
+use Rattle.fabric.proofs.Agrees.{inbox-is}
+use Rattle.dfs_worker.specs.declared.event.Event.{Event}
+use Rattle.dfs_worker.specs.declared.event.Event.TheVariants as event
 use Rattle.dfs_worker.specs.declared.hand.Hand.{Hand}
 use Rattle.dfs_worker.specs.declared.hand.Hand.TheVariants.{Free, Charged, Posted, Popped, Emptied}
 use Rattle.dfs_worker.specs.Census.{count, buffers_of, one, of_slot, of_hand, of_rest, of_stack}
 use Rattle.dfs_worker.specs.Sound.{IsWorker, IsStack, StandsOn, IsHand, AreSlots}
-use Rattle.dfs_worker.specs.State.{State, next_stage}
+use Rattle.dfs_worker.specs.State.{State, next_stage, waiting}
 use Rattle.dfs_worker.proofs.Stacks.{stack-fits, top-low}
-use Rattle.world_core.specs.Bound.{Bound}
+use Rattle.world_core.specs.Bound.{Bound, RunsAreBounded}
 use Rattle.world_core.specs.Gauge.{in_slot, in_hand, in_rest, in_frame, in_worker, messages_of, in_inbox, in_machine, in_inboxes, outside, one_buffer, its_contexts, children, at_frame, at_worker, gauge_of}
 use Rattle.world_core.specs.Owed.{total_below}
 use Rattle.world_core.specs.Sound.{Sound, AreMessages}
-use Rattle.world_core.specs.World.{World}
+use Rattle.world_core.specs.Step.{charged_for, pushed_from, picked_from, restored_rest, restored_from, discharged_from, shared_part, happens_at, worker_of, Run}
+use Rattle.world_core.specs.World.{World, start_world}
+use Rattle.world_core.proofs.Leaves.{run-keeps}
+use Rattle.world_core.proofs.Starts.{start-sound, start-fits}
 
 -- ---- sums of what is smaller
 -- what is no more at each place is no more in all
@@ -190,7 +197,8 @@ inbox-le s f g machine stage None at are each = omega arith
 inbox-le s f g machine stage (Some ms) at are each =
     sum-le f g ms
     (λ i m e.
-    let is = (are machine stage i ms m at e).0 in
+    let found = inbox-is s machine stage ms at in
+    let is = (are machine stage i ms m found.stage found.at e).0 in
     let from = is.from in
     let home = is.home in
     each m (record { home = omega arith; within = is.within }))
@@ -391,3 +399,69 @@ small shape is =
     let tall = product (2 * shape.stages) shape.machines 52 8 (omega arith) machines in
     let all = product (2 * shape.stages * shape.machines) shape.workers 416 8 (omega arith) workers in
     (omega arith, omega arith)
+
+-- ---- a run
+charged-shape : (o : Option (ℕ × ℕ)) (machine : ℕ) (s : Shared) → (charged_for o machine s).shape ≡ s.shape
+charged-shape None machine s = refl
+charged-shape (Some child) machine s = refl
+
+pushed-shape : (hand : Hand) (s : Shared) → (pushed_from hand s).shape ≡ s.shape
+pushed-shape Free s = refl
+pushed-shape (Charged k n) s = refl
+pushed-shape (Posted m) s = refl
+pushed-shape (Popped m) s = refl
+pushed-shape (Emptied m k) s = refl
+
+picked-shape : (hand : Hand) (s : Shared) → (picked_from hand s).shape ≡ s.shape
+picked-shape Free s = refl
+picked-shape (Charged k n) s = refl
+picked-shape (Posted m) s = refl
+picked-shape (Popped m) s = refl
+picked-shape (Emptied m k) s = refl
+
+rest-shape : (r : Rest) (s : Shared) → (restored_rest r s).shape ≡ s.shape
+rest-shape rest.None s = refl
+rest-shape (rest.Roots next end) s = refl
+rest-shape (rest.Items m next over) s = refl
+
+restored-shape : (frames : List Frame) (s : Shared) → (restored_from frames s).shape ≡ s.shape
+restored-shape [] s = refl
+restored-shape (frame ∷ frames) s = rest-shape frame.rest s
+
+discharged-shape : (hand : Hand) (machine : ℕ) (s : Shared) → (discharged_from hand machine s).shape ≡ s.shape
+discharged-shape Free machine s = refl
+discharged-shape (Charged k n) machine s = refl
+discharged-shape (Posted m) machine s = refl
+discharged-shape (Popped m) machine s = refl
+discharged-shape (Emptied m k) machine s = refl
+
+event-shape : (e : Event) (v : State) (s : Shared) → (shared_part e v s).shape ≡ s.shape
+event-shape (event.Claim w) v s = refl
+event-shape (event.Retire w) v s = refl
+event-shape (event.Advance w) v s = refl
+event-shape (event.Descend w) v s = refl
+event-shape (event.Append w) v s = refl
+event-shape (event.Charge w) v s = charged-shape (waiting v.stack) v.machine s
+event-shape (event.Fetch w) v s = refl
+event-shape (event.Post w k n) v s = refl
+event-shape (event.Push w) v s = pushed-shape v.hand s
+event-shape (event.Pop w k) v s = refl
+event-shape (event.Pick w) v s = picked-shape v.hand s
+event-shape (event.Restore w) v s = restored-shape v.stack s
+event-shape (event.Discharge w) v s = discharged-shape v.hand v.machine s
+event-shape (event.Mark w a b) v s = refl
+event-shape (event.Close w) v s = refl
+
+happens-shape : (t : Tree) (w : World) (e : Event) (o : Option State) → (happens_at t w e o).shared.shape ≡ w.shared.shape
+happens-shape t w e None = refl
+happens-shape t w e (Some v) = event-shape e v w.shared
+
+run-shape : (t : Tree) (events : List Event) (w w' : World) → Run t w events w' → w'.shared.shape ≡ w.shared.shape
+run-shape t [] w w' run = ap (λ (u : World). u.shared.shape) run
+run-shape t (e ∷ es) w w' run =
+    run-shape t es run.0 w' run.1.1 ∙ ap (λ (u : World). u.shared.shape) run.1.0.change ∙ happens-shape t w e (slice_get w.workers (worker_of e))
+
+pub runs_are_bounded : RunsAreBounded
+runs_are_bounded shape t events w is law stages machines run =
+    let keeps = run-keeps t events (start_world shape t) w law (start-sound shape t is) (start-fits shape t stages machines) run in
+    subst (λ x. Bound x (gauge_of w)) (run-shape t events (start_world shape t) w run) (bounded w keeps.sound)
