@@ -265,6 +265,13 @@ impl Worker {
         mem::replace(&mut self.hand, hand)
     }
 
+    /// Sets the number of turns in a row that did nothing.
+    pub(crate) fn set_idle(&mut self, idle: u32)
+        ensures { self.new ≡ record self.old { idle = idle } }
+    {
+        self.idle = idle;
+    }
+
     /// It claims no more.
     pub fn leave(&mut self)
         ensures { self.new ≡ retired self.old }
