@@ -132,9 +132,11 @@ one_more of old h h2 (Some p) was e = named_so (is_key_name of p.name) e
           columns = typed_push new h.columns number p.type (typed_still h.properties new h.columns is.grown was.columns) is.typed;
           grown = extends_both old h.properties new was.grown is.grown;
         })
+
     by_place : (found : Option (ℕ × List Property)) → ((number : ℕ) (new : List Property) → found ≡ Some (number, new) → IsPlaced h.properties new number p.type) → with_property h p.type found ≡ Some h2 → IsTyped old h2
     by_place None there f = cc f
     by_place (Some at) there f = fresh at.0 at.1 (there at.0 at.1 refl) (is_some (column_of h.columns at.0)) f
+
     named_so : (b : Bool) → cond b None (with_property h p.type (placed h.properties p)) ≡ Some h2 → IsTyped old h2
     named_so true f = cc f
     named_so false f = by_place (placed h.properties p) (placed_type h.properties p) f
