@@ -1,11 +1,11 @@
 -- Chains of edges, the last edge first.
-use Rattle.std.proofs.Common.{◌≡◌, ◌≢◌, ◌∙◌, sym, ap, refl, arith, ℕ, zero, suc, ◌+◌, ◌-◌, ◌<◌, ◌≤◌, ◌==◌, Bool, true, false, cond, List, [], ◌∷◌, ◌++◌, length, map, drop, slice_index, slice_index_or, slice_set, add-one, append_assoc, length-append, ◌^◌}
+use Rattle.std.proofs.Common.{◌≡◌, ◌≢◌, ◌∙◌, sym, ap, refl, arith, ℕ, zero, suc, ◌+◌, ◌<◌, ◌≤◌, ◌==◌, Bool, true, false, cond, List, [], ◌∷◌, ◌++◌, length, map, drop, slice_index, slice_index_or, slice_set, add-one, append_assoc, length-append, ◌^◌}
 use Rattle.std.proofs.lemmas.Bool.Decides.{nat_tests}
-use Rattle.std.proofs.lemmas.List.{drop_all, get_or-set_other, get_or-set_same, length-set, map-append}
-use Rattle.std.specs.List.{AllByRecursion, filter}
+use Rattle.std.proofs.lemmas.List.{drop_all, get_or-set_other, get_or-set_same, length-set}
+use Rattle.std.specs.List.{AllByRecursion}
 use Rattle.graph_tables.specs.Graph.{Edge}
 use Rattle.partition.specs.Kept.{IsChain, edges_from, link_of, no_number}
-use Rattle.partition.specs.Parts.{near_end, no_edge, numbered}
+use Rattle.partition.specs.Parts.{near_end, no_edge}
 use Rattle.partition.specs.declared.link.Link.{Link}
 
 -- the edges from a number on have no lesser one

@@ -1,6 +1,5 @@
 -- The lists of vertices, and the entries that their links stand for.
-use Rattle.std.proofs.Common.{◌≡◌, ◌∙◌, sym, ap, refl, subst, arith, ℕ, zero, suc, ◌+◌, ◌<◌, ◌≤◌, ◌==◌, Bool, true, false, cond, ℤ, List, [], ◌∷◌, ◌++◌, length, map, take, drop, slice_get, slice_index, slice_index_or, Some, append_assoc, length-append}
-use Rattle.std.proofs.lemmas.Bool.Decides.{nat_tests}
+use Rattle.std.proofs.Common.{◌≡◌, ◌∙◌, sym, ap, refl, subst, arith, ℕ, zero, suc, ◌+◌, ◌<◌, ◌≤◌, ◌==◌, Bool, true, false, cond, List, [], ◌∷◌, ◌++◌, length, map, take, slice_get, slice_index, slice_index_or, Some}
 use Rattle.std.proofs.lemmas.List.{length-map, map-append, take_more}
 use Rattle.std.proofs.lemmas.Option.{slice_get-get_or}
 use Rattle.std.specs.List.{AllByRecursion, filter, range_with_len}
@@ -8,8 +7,8 @@ use Rattle.std.specs.Option.{option_map}
 use Rattle.element_store.specs.Elements.{Element}
 use Rattle.graph_tables.specs.Graph.{Edge, without_ends}
 use Rattle.sorted_lists.specs.Sorted.{before_by, in_order}
-use Rattle.partition.specs.Kept.{HoldsLists, IsSpan, edges_at, element_at, entry_from, link_lists, link_of, link_order, linked, links_at, links_in_order, no_element, numbers_of}
-use Rattle.partition.specs.Parts.{entries_of, entry_of, entry_order, near_end, no_edge, numbered, other_end}
+use Rattle.partition.specs.Kept.{HoldsLists, IsSpan, edges_at, element_at, entry_from, link_lists, link_of, link_order, linked, links_at, links_in_order, numbers_of}
+use Rattle.partition.specs.Parts.{entries_of, entry_of, entry_order, near_end, no_edge, other_end}
 use Rattle.partition.specs.declared.link.Link.{Link}
 use Rattle.partition.specs.declared.adjacency.Lists.{Lists}
 use Rattle.partition.proofs.AdjacencyFacts.{All-in_order, map-in_order}

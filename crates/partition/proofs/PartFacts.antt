@@ -1,12 +1,11 @@
 -- The parts of machines, from what they have of their own and what they share.
-use Rattle.std.proofs.Common.{◌≡◌, ◌∙◌, sym, ap, refl, arith, subst, ℕ, ◌<◌, ◌==◌, ◌^◌, Bool, true, false, List, [], ◌∷◌, length, map, slice_index}
+use Rattle.std.proofs.Common.{◌≡◌, ◌∙◌, ap, refl, ℕ, ◌<◌, ◌==◌, ◌^◌, Bool, true, false, List, [], ◌∷◌, length, map, slice_index}
 use Rattle.std.proofs.lemmas.List.{length-map}
-use Rattle.std.specs.List.{AllByRecursion, filter, range_with_len}
-use Rattle.graph_tables.specs.Graph.{Edge, PropertyGraph, without_ends}
-use Rattle.partition.specs.Kept.{AreDealt, AreLists, HoldsLists, IsOwn, IsPart, element_at, entry_lists, numbers_of, part_in}
-use Rattle.partition.specs.Parts.{MachinePart, entries_of, part_with, vertices_of}
+use Rattle.std.specs.List.{AllByRecursion}
+use Rattle.graph_tables.specs.Graph.{PropertyGraph, without_ends}
+use Rattle.partition.specs.Kept.{AreDealt, AreLists, HoldsLists, IsOwn, IsPart, element_at, entry_lists, part_in}
+use Rattle.partition.specs.Parts.{entries_of, part_with, vertices_of}
 use Rattle.partition.specs.declared.adjacency.Lists.{Lists}
-use Rattle.partition.specs.declared.link.Link.{Link}
 use Rattle.partition.specs.declared.lists.Own.{Own}
 use Rattle.partition.specs.declared.shared.Shared.{Shared}
 use Rattle.partition.proofs.DealingFacts.{numbers_chosen, vertices_there}

@@ -1,5 +1,5 @@
 -- Entries, as they are read out of links.
-use Rattle.std.proofs.Common.{◌≡◌, ◌∙◌, sym, ap, refl, subst, arith, ℕ, zero, suc, ◌<◌, ◌==◌, ◌^◌, nat_eq, position, Bool, true, false, cond, ℤ, List, [], ◌∷◌, length, map, take, drop, slice_get, slice_index, slice_index_or, Option, Some, None, IsSome, option_and_then}
+use Rattle.std.proofs.Common.{◌≡◌, ◌∙◌, sym, ap, refl, subst, arith, ℕ, zero, suc, ◌<◌, ◌==◌, ◌^◌, nat_eq, position, Bool, true, false, cond, ℤ, List, [], ◌∷◌, length, map, take, drop, slice_get, slice_index, Option, Some, None, IsSome, option_and_then}
 use Rattle.std.proofs.lemmas.List.{length-map}
 use Rattle.std.proofs.lemmas.Option.{slice_get-get_or, slice_get-map}
 use Rattle.std.proofs.lemmas.List.Quantifiers.{position-Some}

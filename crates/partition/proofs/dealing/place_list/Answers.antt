@@ -1,4 +1,4 @@
-use Rattle.std.proofs.Common.{◌≡◌, ◌<◌, ◌+◌, ◌++◌, ◌∷◌, [], ◌∙◌, sym, ap, arith, refl, ℕ, length, length-append, slice_index, slice_set, take, drop}
+use Rattle.std.proofs.Common.{◌≡◌, ◌<◌, ◌+◌, ◌++◌, ◌∷◌, [], ◌∙◌, ap, arith, refl, length, length-append, slice_index, slice_set, take, drop}
 use Rattle.std.proofs.lemmas.List.{length-set}
 use Rattle.partition.proofs.DealingFacts.{All-index, among_few, counted_more, placed_more, written}
 use Rattle.partition.proofs.dealing.place_list.Goals as goal

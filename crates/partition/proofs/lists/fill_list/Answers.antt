@@ -1,4 +1,4 @@
-use Rattle.std.proofs.Common.{◌≡◌, ◌<◌, ◌^◌, arith, refl, length}
+use Rattle.std.proofs.Common.{◌<◌, ◌^◌, arith, refl, length}
 use Rattle.std.proofs.lemmas.List.{get_or_read}
 use Rattle.partition.specs.Kept.{edges_at, links_at}
 use Rattle.partition.proofs.ChainFacts.{each_known, walk_ends, walk_goes, walk_on}

@@ -1,4 +1,4 @@
-use Rattle.std.proofs.Common.{◌≡◌, ◌<◌, ◌-◌, ◌^◌, ℕ, List, length}
+use Rattle.std.proofs.Common.{◌-◌, ℕ, List, length}
 use Rattle.graph_tables.specs.Graph.{Edge}
 use Rattle.partition.specs.Kept.{links_at}
 use Rattle.partition.proofs.ChainFacts.{Walks}

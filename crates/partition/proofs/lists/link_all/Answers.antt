@@ -1,6 +1,5 @@
-use Rattle.std.proofs.Common.{◌≡◌, ◌<◌, ◌^◌, ◌∙◌, sym, ap, arith, refl, length, take, slice_index}
+use Rattle.std.proofs.Common.{◌≡◌, ◌<◌, ap, arith, refl, length, take, slice_index}
 use Rattle.std.proofs.lemmas.List.{take_all}
-use Rattle.partition.specs.Kept.{HoldsLists}
 use Rattle.partition.proofs.ListFacts.{holds_more, length-links_at}
 use Rattle.partition.proofs.lists.link_all.Goals as goal
 

@@ -1,4 +1,4 @@
-use Rattle.std.proofs.Common.{◌∙◌, arith, sym}
+use Rattle.std.proofs.Common.{arith}
 use Rattle.element_store.proofs.ElementFacts.{length-joined}
 use Rattle.element_store.proofs.list.ElementList.len.Goals as goal
 

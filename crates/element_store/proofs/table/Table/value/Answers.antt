@@ -1,4 +1,4 @@
-use Rattle.std.proofs.Common.{◌≡◌, ◌<◌, ◌∙◌, ◌*◌, sym, ap, arith, length, take, drop, Some}
+use Rattle.std.proofs.Common.{◌<◌, ◌∙◌, ◌*◌, sym, ap, arith, length, take, drop, Some}
 use Rattle.element_store.proofs.RowFacts.{cell_there, cell_within, length-rows_of, rows_get}
 use Rattle.element_store.proofs.SlotFacts.{slot_null, slot_value, slot_within}
 use Rattle.element_store.proofs.table.Table.value.Goals as goal

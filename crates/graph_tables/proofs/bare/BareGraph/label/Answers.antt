@@ -1,4 +1,3 @@
-use Rattle.std.proofs.Common.{arith}
 use Rattle.graph_tables.proofs.GraphFacts.{length-edges_with, label_with}
 use Rattle.graph_tables.proofs.bare.BareGraph.label.Goals as goal
 
