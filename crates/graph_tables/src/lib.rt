@@ -2,8 +2,9 @@
 //!
 //! A contract sees a `Graph` as a `PropertyGraph` (`specs/Graph.antt`): the vertices and the edges in the
 //! order of their numbers, the texts, and the properties of either kind. Each edge ends at vertices. A graph
-//! that was loaded (`graph_loading`) also has a meaning for each label and each value under its texts
-//! (`IsWhole`), which stays so as long as the texts that `Graph::detach` gives away are kept beside it.
+//! that was loaded (`graph_loading`) also has a meaning for each label and each value under its texts, and its
+//! values have the kinds of their properties (`IsWhole`). The first stays so as long as the texts that
+//! `Graph::detach` gives away are kept beside it.
 //!
 //! `manifest` and `heading` say exactly which tables a manifest names and which columns a header has
 //! (`specs/Manifest.antt`, `specs/Headers.antt`), or the first fault. `Loading` is a graph that is being

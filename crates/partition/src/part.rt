@@ -1,5 +1,5 @@
 //! A machine's part of a graph, and its readers.
-ghost use Rattle.std.specs.Prelude.{◌≡◌, ◌<◌, ◌^◌, ℤ, ℕ, IsSome, Some, if◌then◌else◌, length, option_and_then, nat_eq, position, slice_get, slice_index};
+ghost use Rattle.std.specs.Prelude.{◌≡◌, ◌<◌, ◌^◌, ℤ, ℕ, IfSome, IsSome, Some, if◌then◌else◌, length, option_and_then, nat_eq, position, slice_get, slice_index};
 ghost use Rattle.std.specs.List.{AllByRecursion};
 ghost use Rattle.std.specs.Option.{option_map};
 ghost use Rattle.element_store.specs.Columns.{value_of};
@@ -98,7 +98,8 @@ impl Part {
     /// The place of a vertex of the graph; `None` exactly where the part lacks it.
     pub fn place_of(&self, vertex: u32) -> Option<u32>
         requires { vertex < length self.now.owners }
-        ensures { result ≡ position (nat_eq vertex) self.now.numbers }
+        ensures place { result ≡ position (nat_eq vertex) self.now.numbers }
+        ensures within { IfSome result (λ place. place < length self.now.vertices) }
     {
         self.site.place_of(vertex)
     }

@@ -1,6 +1,9 @@
 pub mod May
 pub mod Owed
+pub mod Reach
+pub mod Rows
 pub mod Sound
 pub mod Step
 pub mod Stepped
+pub mod Work
 pub mod World
