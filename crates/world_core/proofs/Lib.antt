@@ -1,5 +1,7 @@
 pub mod Bodies
+pub mod Bounds
 pub mod Ends
+pub mod Gauges
 pub mod Happens
 pub mod Inboxes
 pub mod Leaves

@@ -1,3 +1,5 @@
+pub mod Bound
+pub mod Gauge
 pub mod May
 pub mod Owed
 pub mod Reach

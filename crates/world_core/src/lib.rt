@@ -27,11 +27,13 @@
 #![tactic(auto)]
 
 mod events;
+mod gauge;
 mod guards;
 pub mod laws;
 mod stepped;
 mod world;
 
 pub use dfs_worker::{Event, Guard};
+pub use gauge::Gauge;
 pub use stepped::Stepped;
 pub use world::World;

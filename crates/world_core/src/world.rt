@@ -3,6 +3,7 @@ ghost use Rattle.world_core.specs.Reach.{CanReach};
 ghost use Rattle.world_core.specs.Rows.{IsFinished};
 ghost use Rattle.adfs_base.specs.Shape.{IsShape};
 ghost use Rattle.world_core.specs.Owed.{owed};
+ghost use Rattle.world_core.specs.Sound.{Sound};
 ghost use Rattle.world_core.specs.Step.{guard_of};
 ghost use Rattle.world_core.specs.Stepped.{IsStepped, IfDone, stepped_of};
 ghost use Rattle.world_core.specs.Work.{work_left};
@@ -49,7 +50,8 @@ fn stepped(made: Result<(), NoMemory>) -> Stepped
 impl World {
     /// The workers, in the order of their numbers.
     pub fn workers(&self) -> &[Worker]
-        ensures { result.now ≡ self.now.workers }
+        ensures workers { result.now ≡ self.now.workers }
+        ensures sound { Sound self.now }
     {
         &self.workers
     }
