@@ -7,10 +7,10 @@
 //!
 //! Where the store tells its files and the sink its pieces, the call puts exactly those replies on `Done` and
 //! `SomeRefused`, each by a put of its own and none empty; on `WriteFault` some first ones whole and a front of the next;
-//! and nothing on any other status (specs/Puts.antt). A status comes for no other cause than its own (specs/Causes.antt of
-//! `run_replies`): `Usage`, `NotBuilt`, `TableFault`, `OwnerFault`, `Missing` and `Limit` exactly by `outcome_of`,
-//! `SomeRefused` exactly where a query is refused, a read or write fault only where the store's or the sink's count of
-//! faults rose in the call. A read fault has the number of the manifest, a table or the query file, or of the owner file
+//! and nothing on any other status (specs/Puts.antt). A status comes for no other cause than its own
+//! (run_replies/specs/Causes.antt): `Usage`, `NotBuilt`, `TableFault`, `OwnerFault`, `Missing` and `Limit` exactly by
+//! `outcome_of`, `SomeRefused` exactly where a query is refused, a read or write fault only where the store's or the
+//! sink's count of faults rose in the call. A read fault has the number of the manifest, a table or the query file, or of the owner file
 //! where the words name one. Want of memory alone may come at any time.
 #![tactic(auto)]
 
