@@ -1,19 +1,18 @@
 -- A text as what stands at its front, and the text behind that.
-use Rattle.std.proofs.Common.{◌≡◌, ◌↔◌, ◌≤◌, ◌<◌, ℕ, zero, suc, ◌+◌, ◌-◌, Bool, true, false, cond, List, [], ◌∷◌, ◌++◌, map, take, drop, length, length-drop, Option, Some, None, Ok, Err, refl, sym, ap, ◌∙◌, subst, arith}
-use Rattle.std.specs.Prelude.{◌||◌, nat_lt, slice_index, unwrap_or, if◌then◌else◌}
+use Rattle.std.proofs.Common.{◌≡◌, ◌≤◌, ℕ, zero, suc, ◌+◌, ◌-◌, Bool, true, false, cond, List, [], ◌∷◌, ◌++◌, map, take, drop, length, length-drop, Option, Some, None, Ok, Err, refl, sym, ap, ◌∙◌, subst, arith}
+use Rattle.std.specs.Prelude.{nat_lt, slice_index, unwrap_or, if◌then◌else◌}
 use Rattle.std.specs.Char.{is_ascii_digit}
 use Rattle.std.specs.List.{prefix_len}
 use Rattle.std.specs.Str.Lossy.{utf8_valid_len}
 use Rattle.std.proofs.lemmas.Bool.Decides.{nat_tests}
 use Rattle.pgql_lexer.specs.declared.token.Token.{Token}
-use Rattle.pgql_lexer.specs.declared.token.TokenKind.{TokenKind}
-use Rattle.pgql_lexer.specs.declared.token.TokenKind.TheVariants.{Word, Number, Text, Symbol}
+use Rattle.pgql_lexer.specs.declared.token.TokenKind.TheVariants.{Number, Text}
 use Rattle.pgql_lexer.specs.declared.fronts.Front.{Front}
 use Rattle.pgql_lexer.specs.declared.fronts.Front.TheVariants as front
 use Rattle.pgql_lexer.specs.declared.pieces.Mark.{Mark}
 use Rattle.pgql_lexer.specs.declared.pieces.Mark.TheVariants as mark
 use Rattle.pgql_lexer.specs.Fronts.{Bytes, is_space, begins_word, is_word_byte, is_quote, opens_comment, is_pair, is_symbol, value_after, most_number, comment_end, comment_to, literal_end, literal_to, number_of, front_of}
-use Rattle.pgql_lexer.specs.Pieces.{is_semicolon, comment_marked, marked_front, marks_from, marks}
+use Rattle.pgql_lexer.specs.Pieces.{is_semicolon, comment_marked, marked_front, marks_from}
 use Rattle.pgql_lexer.specs.Tokens.{Lexed, with_front, lexed_after, tokens_from, tokens}
 use Rattle.pgql_lexer.specs.Laws.{AreTokens, no_more, gap, token, TokensCutTheText, AreMarks, no_bytes, stretch, MarksCutTheText}
 use Rattle.pgql_lexer.proofs.Ends.{closed_there, closed_so}

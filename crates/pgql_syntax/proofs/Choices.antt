@@ -4,18 +4,15 @@ use Rattle.pgql_lexemes.specs.declared.kind.Kind.{Kind}
 use Rattle.pgql_lexemes.specs.declared.kind.Kind.TheVariants as k
 use Rattle.pgql_lexemes.specs.Lexemes.{Lexeme}
 use Rattle.pgql_lexemes.specs.Lists.{choose, separated, optional, sees, after, after_by}
-use Rattle.pgql_tree.specs.declared.ast.Ast.{Ast}
 use Rattle.pgql_tree.specs.declared.ast.AstExpr.{AstExpr}
 use Rattle.pgql_tree.specs.declared.ast.Path.{Path}
-use Rattle.pgql_tree.specs.declared.ast.EdgePat.{EdgePat}
 use Rattle.pgql_tree.specs.declared.ast.Key.{Key}
 use Rattle.pgql_tree.specs.declared.ast.Item.{Item}
 use Rattle.pgql_syntax.specs.declared.query.Head.{Head}
 use Rattle.pgql_syntax.specs.declared.query.Tail.{Tail}
-use Rattle.pgql_syntax.specs.declared.pattern.Spec.{Spec}
 use Rattle.pgql_syntax.specs.Grammar.{edge_of}
 use Rattle.pgql_expr.specs.Reading.{Outcome, Parser, and_then, ◌>>=◌, ◌>>◌, pure, by_next, take_token, expect, same_kind}
-use Rattle.pgql_syntax.specs.Patterns.{read_label, read_labels, read_enclosed, read_out, read_placed}
+use Rattle.pgql_syntax.specs.Patterns.{read_label, read_labels, read_enclosed, read_out}
 use Rattle.pgql_syntax.specs.Queries.{read_whole_expr, read_key, read_keys, read_number, read_distinct, direction_by, read_direction, read_selection, read_pattern}
 use Rattle.pgql_syntax.specs.Queries.{read_order, read_tail, read_head, read_query, query_with}
 

@@ -22,7 +22,6 @@ use Rattle.value_text.specs.Valid.{IsValid}
 use Rattle.typed_query.specs.declared.expr.Expr.{Expr}
 use Rattle.typed_query.specs.declared.expr.Expr.TheVariants as expr
 use Rattle.typed_query.specs.declared.query.Capture.{Capture}
-use Rattle.typed_query.specs.declared.query.What.{What}
 use Rattle.typed_query.specs.declared.query.What.TheVariants as what
 use Rattle.pattern_scope.specs.declared.scope.Declared.{Declared}
 use Rattle.typed_expr.specs.Captured.{HasItsKind, KeepsKind}

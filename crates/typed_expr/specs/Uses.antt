@@ -1,5 +1,5 @@
 -- What an expression uses: variables, and the texts of its literals, each in the order of the text.
-use Rattle.std.specs.Prelude.{ℕ, ◌+◌, Bool, true, false, ◌==◌, ◌&&◌, if◌then◌else◌, List, [], ◌∷◌, ◌++◌, Option, Some, None}
+use Rattle.std.specs.Prelude.{ℕ, ◌+◌, Bool, ◌==◌, ◌&&◌, if◌then◌else◌, List, [], ◌∷◌, ◌++◌, Option, Some, None}
 use Rattle.std.specs.List.{list_any, cons_option}
 use Rattle.adfs_base.specs.declared.value.Kind.{Kind}
 use Rattle.pgql_tree.specs.declared.ast.AstExpr.{AstExpr}

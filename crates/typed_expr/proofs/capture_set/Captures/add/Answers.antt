@@ -1,4 +1,3 @@
-use Rattle.std.proofs.Common.{◌∙◌}
 use Rattle.typed_expr.proofs.SameUses.{inserted}
 use Rattle.typed_expr.proofs.capture_set.Captures.add.Goals as goal
 
