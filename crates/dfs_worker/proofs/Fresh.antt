@@ -71,7 +71,7 @@ fresh-holds shape w machine = record {
 
 pub fresh-fits : {F : Type 0} (agrees : F → ℕ → Holding → Type 0) (shape : F → Extents) (roots : F → ℕ → ℕ) (tree : Tree) (v : State) (f : F) (extents : Extents) (w : ℕ) →
     v ≡ fresh extents w (w / extents.workers) → IsShape extents → w < extents.machines * extents.workers → TreeFits tree extents → shape f ≡ extents →
-    ((machine : ℕ) → roots f machine ≡ tree.roots machine) → agrees f w fresh_holding → Fits agrees shape roots tree v f
+    ((machine : ℕ) → machine < extents.machines → roots f machine ≡ tree.roots machine) → agrees f w fresh_holding → Fits agrees shape roots tree v f
 fresh-fits agrees shape roots tree v f extents w is a b fits same_shape same_roots agreed =
     rw is
     (record {

@@ -5,9 +5,9 @@ ghost use Rattle.turn_tests.specs.Scripts.{Plays};
 use crate::fan::Fan;
 use crate::script::{Asked, Ready, Script};
 use crate::told::Told;
-use adfs_base::{CONTEXT_WORDS, NoMemory, Shape};
+use crate::words::{number, setting};
+use adfs_base::{NoMemory, Shape};
 use dfs_worker::{Turn, Worker};
-use match_context::Context;
 use std::alloc::Global;
 
 /// Nothing is ready.
@@ -25,36 +25,6 @@ const NOTHING: Ready = Ready {
     close: false,
     moved: false,
 };
-
-/// The number of a word; 0 where it is none.
-fn number(word: Option<&str>) -> u32 {
-    match word {
-        Some(word) => word.parse::<u32>().unwrap_or(0),
-        None => 0,
-    }
-}
-
-/// A tree and the shape of its run: stages, machines, roots, skips, children, the contexts of a buffer, and the budget.
-fn setting(numbers: &str) -> Option<(Fan, Shape)>
-    ensures { IfSome result (λ p. (p.0.stages ≡ p.1.stages) × (p.0.machines ≡ p.1.machines)) }
-{
-    let mut words = numbers.split_whitespace();
-    let stages = number(words.next());
-    let machines = number(words.next());
-    let fan = Fan {
-        stages,
-        machines,
-        roots: u64::from(number(words.next())),
-        skips: number(words.next()),
-        children: number(words.next()),
-        root: Context {
-            words: [0; CONTEXT_WORDS as usize],
-        },
-    };
-    let buffer = number(words.next());
-    let shape = Shape::new(machines, 1, stages, 2, number(words.next()), buffer)?;
-    Some((fan, shape))
-}
 
 /// One more word of what is ready.
 fn add_word(ready: &mut Ready, word: &str) {
@@ -132,16 +102,12 @@ fn start(alloc: Global, fan: &Fan, shape: &Shape) -> Result<(Worker, Script), No
 }
 
 /// Plays the turns of a line.
-pub fn play(alloc: Global, line: &str, shown: &mut String) -> Result<(), NoMemory> {
-    let mut parts = line.split('|');
-    let name = parts.next().unwrap_or("");
-    shown.push_str(name)?;
-    shown.push('\n')?;
-    let Some((fan, shape)) = setting(parts.next().unwrap_or("")) else {
+pub fn play(alloc: Global, numbers: &str, turns: &str, shown: &mut String) -> Result<(), NoMemory> {
+    let Some((fan, shape)) = setting(numbers) else {
         return Ok(());
     };
     let (mut worker, mut script) = start(alloc, &fan, &shape)?;
-    for part in parts {
+    for part in turns.split(',') {
         turn(alloc, part, &mut worker, &mut script, &fan, shown)?;
     }
     let rows = worker.rows().len();
