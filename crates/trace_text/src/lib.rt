@@ -9,7 +9,16 @@
 #![tactic(auto)]
 
 mod event_line;
+mod fault;
+mod header;
 mod kind;
 mod number;
+mod said;
+mod written;
 
+pub use adfs_base::PartWord;
+pub use dfs_worker::{Event, Guard};
 pub use event_line::{put_event, read_event};
+pub use fault::ReplayFault;
+pub use header::{Header, read_header};
+pub use written::put_header;
