@@ -1,6 +1,9 @@
 """What the tools of this folder share: the rules behind each refusal, and readers of queries, replies and tables.
 
 Everything works on bytes, since places in a query file are counted in bytes and a file need not be UTF-8."""
+import os
+import re
+import sys
 
 NAMES = {
     10: 'BadCharacter', 11: 'OpenText', 12: 'OpenComment', 13: 'WideNumber', 14: 'Unexpected', 15: 'Deep',
@@ -63,6 +66,27 @@ LIMIT_RULES = {
 }
 
 BYTE_ORDER_MARK = b'\xef\xbb\xbf'
+TABLE_CELL_END = re.compile(rb'[,\r\n]')
+REPLY_CELL_END = re.compile(rb'[,\n]')
+
+
+def run(main):
+    """Runs a tool. What it can't read is told in a line, with status 2."""
+    try:
+        main()
+        sys.stdout.flush()
+    except BrokenPipeError:
+        os.dup2(os.open(os.devnull, os.O_WRONLY), sys.stdout.fileno())
+    except (OSError, ValueError) as fault:
+        said = f'{fault.filename}: {fault.strerror}' if isinstance(fault, OSError) and fault.filename else fault
+        print(f'{os.path.basename(sys.argv[0])}: {said}', file=sys.stderr)
+        sys.exit(2)
+
+
+def end_at(pattern, raw, at):
+    """Where the first of the pattern begins from a place on, or the end."""
+    found = pattern.search(raw, at)
+    return found.start() if found else len(raw)
 
 
 def shown(raw):
@@ -125,9 +149,7 @@ def reply_record(raw, at):
                 at += 1
             cells.append(b''.join(content))
         else:
-            end = at
-            while end < len(raw) and raw[end] not in b',\n':
-                end += 1
+            end = end_at(REPLY_CELL_END, raw, at)
             cells.append(raw[at:end] if end > at else None)
             at = end
         if raw[at:at + 1] != b',':
@@ -201,9 +223,7 @@ def table_cell(raw, at):
             content += b'"'
             at += 1
         at = min(at, len(raw))
-    end = at
-    while end < len(raw) and raw[end] not in b',\r\n':
-        end += 1
+    end = end_at(TABLE_CELL_END, raw, at)
     return bytes(content + raw[at:end]), end, feeds
 
 

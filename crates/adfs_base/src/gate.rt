@@ -1,3 +1,5 @@
+//! The gates that running workers pass.
+
 /// What a running worker passes before each of its turns.
 ///
 /// Tests hold workers at a gate, to see that they run at the same time. A worker's turns are numbered from 0. A

@@ -1,3 +1,4 @@
+//! A gate at which two workers meet, for tests.
 use crate::Gate;
 use std::sync::atomic::{AtomicBool, Ordering};
 

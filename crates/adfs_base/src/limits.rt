@@ -1,3 +1,5 @@
+//! The limits of a run, of queries, and of files and graphs.
+
 /// The machines of a run.
 pub const MACHINES: u32 = 8;
 

@@ -1,3 +1,4 @@
+//! A sink in memory, which tells what it took.
 ghost use Rattle.std.specs.Prelude.{◌≡◌, ◌≤◌, ◌++◌, [], ℕ, Option, Some, None, IfOk, take, length};
 ghost use Rattle.adfs_base.specs.Counts.{Rose};
 ghost use Rattle.adfs_base.specs.MemSink.{put_of};

@@ -1,3 +1,4 @@
+//! A store in memory, which tells its files.
 ghost use Rattle.std.specs.Prelude.{◌≡◌, ◌≢◌, ◌≤◌, ◌+◌, [], Option, Some, None, map, take, length};
 ghost use Rattle.std.specs.Option.{option_copied};
 ghost use Rattle.adfs_base.specs.Counts.{counted, Rose};

@@ -1,3 +1,4 @@
+//! A name as a text of its own, and what is answered where memory runs out.
 ghost use Rattle.std.specs.Prelude.{◌≡◌, IfOk};
 
 use std::alloc::{AllocError, AllocFailed, Global};

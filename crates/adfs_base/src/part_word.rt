@@ -1,3 +1,4 @@
+//! How the command line says which machine owns which vertex.
 use crate::Name;
 
 /// How the vertices are dealt out to the machines, as the command line says it.

@@ -1,3 +1,4 @@
+//! The shape of a run: its machines, workers, stages, credits and buffers.
 ghost use Rattle.std.specs.Prelude.{◌≡◌, ◌≤◌, ◌↔◌, Option, IsSome, IfSome};
 ghost use Rattle.adfs_base.specs.Shape.{IsShape, limit_of, pool_of, need_of, contexts_of};
 

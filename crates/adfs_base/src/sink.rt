@@ -1,3 +1,4 @@
+//! The outside that takes bytes.
 ghost use Rattle.std.specs.Prelude.{◌≡◌, ◌≤◌, List, ℕ, Option};
 ghost use Rattle.adfs_base.specs.Counts.{Rose};
 ghost use Rattle.adfs_base.specs.Bytes.{took, with_piece, TookFront};

@@ -1,3 +1,5 @@
+//! What each step on shared counters answers.
+
 /// A word that must be 0 before its stage can close.
 #[derive(Clone, Copy, Debug, PartialEq, Eq)]
 pub enum Word {

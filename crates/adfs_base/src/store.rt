@@ -1,3 +1,4 @@
+//! The outside that gives files.
 ghost use Rattle.std.specs.Prelude.{◌≡◌, ◌≢◌, ◌≤◌, ◌+◌, [], ℕ, Option, length};
 ghost use Rattle.adfs_base.specs.Counts.{Rose};
 ghost use Rattle.adfs_base.specs.Files.{Files, Reads, Lacks};

@@ -1,4 +1,4 @@
-// Each public call once with ample memory, and the in-memory forms as their entries say.
+//! Each public call once with ample memory, and the forms in memory as their lists say.
 use super::*;
 use std::alloc::Global;
 use std::test::Fail;

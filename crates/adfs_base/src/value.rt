@@ -1,3 +1,5 @@
+//! The kinds of values, and a value.
+
 /// What a property's values are.
 #[derive(Clone, Copy, Debug, PartialEq, Eq)]
 pub enum Kind {

@@ -1,11 +1,10 @@
 -- The tables at the start of a run.
-use Rattle.std.proofs.Common.{◌≡◌, ℕ, ◌+◌, ◌-◌, ◌*◌, ◌<◌, ◌≤◌, max, List, [], ◌∷◌, length, map, replicate, Option, Some, None, refl, sym, ap, ◌∙◌, arith, subst, zero, suc}
+use Rattle.std.proofs.Common.{◌≡◌, ℕ, ◌*◌, List, [], ◌∷◌, length, map, replicate, Some, refl, sym, ap, ◌∙◌, arith, subst, zero, suc}
 use Rattle.std.specs.Prelude.{slice_get}
-use Rattle.std.proofs.lemmas.List.{length-map, length-replicate}
+use Rattle.std.proofs.lemmas.List.{length-replicate}
 use Rattle.adfs_base.specs.Shape.{Extents, IsShape, pool_of}
-use Rattle.match_context.specs.declared.message.Message.{Message}
-use Rattle.fabric.specs.Queue.{Queue, Stock, empty_queue, full_stock}
-use Rattle.fabric.specs.Shared.{Shared, IsShared, room_of, start}
+use Rattle.fabric.specs.Queue.{Stock, empty_queue, full_stock}
+use Rattle.fabric.specs.Shared.{IsShared, room_of, start}
 use Rattle.fabric.specs.View.{shared_of, IsFabric}
 use Rattle.fabric.specs.declared.plain.PlainFabric.TheInside.{Inside}
 

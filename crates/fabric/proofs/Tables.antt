@@ -1,6 +1,6 @@
 -- One pool or inbox of a plain fabric changes.
-use Rattle.std.proofs.Common.{◌≡◌, ℕ, ◌+◌, ◌-◌, ◌*◌, ◌<◌, ◌≤◌, Bool, true, false, cond, ◌&&◌, ltb, List, [], ◌∷◌, ◌++◌, length, get_or, map, Option, Some, None, refl, sym, ap, ◌∙◌, arith, subst, ◌⊎◌, inl, inr}
-use Rattle.std.specs.Prelude.{slice_get, slice_set, slice_index, nat_lt}
+use Rattle.std.proofs.Common.{◌≡◌, ℕ, ◌+◌, ◌-◌, ◌<◌, Bool, true, false, cond, ◌&&◌, List, [], ◌∷◌, ◌++◌, length, get_or, map, Option, Some, None, refl, sym, ap, ◌∙◌, arith, subst, inl, inr}
+use Rattle.std.specs.Prelude.{slice_get, slice_set, nat_lt}
 use Rattle.std.specs.Option.{option_map}
 use Rattle.std.specs.Vec.{with_item}
 use Rattle.std.proofs.lemmas.Bool.Decides.{nat_tests}
@@ -10,9 +10,9 @@ use Rattle.adfs_base.specs.Shape.{pool_of}
 use Rattle.match_context.specs.Batch.{Batch}
 use Rattle.match_context.specs.declared.message.Message.{Message}
 use Rattle.match_context.proofs.Totals.{get-of_set}
-use Rattle.fabric.specs.Calls.{can_fetch, empty_buffer, fetch_answer, after_fetch, after_restore, has_space, can_push, after_push, with_last, first_of, rest_of, first_in, pop_answer, without_first, after_pop}
+use Rattle.fabric.specs.Calls.{empty_buffer, fetch_answer, after_fetch, after_restore, has_space, can_push, after_push, with_last, first_of, rest_of, first_in, pop_answer, without_first, after_pop}
 use Rattle.fabric.specs.Queue.{Queue, Stock}
-use Rattle.fabric.specs.Shared.{Shared, IsShared, IsMessageStage, machine_of, pool_at, inbox_place, inbox_at, room_of}
+use Rattle.fabric.specs.Shared.{Shared, IsMessageStage, pool_at, inbox_place, inbox_at, room_of}
 use Rattle.fabric.specs.View.{shared_of, IsFabric}
 use Rattle.fabric.specs.declared.plain.PlainFabric.TheInside.{Inside}
 
@@ -44,7 +44,8 @@ pool-found a m p fab within e =
       count = get_or_from_slice_get (map (λ q. q.count) a.pools.items) m p.count 0 (mapped-at (λ q. q.count) a.pools.items m p at);
     }
 
-pub pools-kept : (a : Inside) (m : ℕ) (p p' : Stock) → IsFabric a → PoolAt a m p → p'.home ≡ p.home → p'.size ≡ p.size → p'.room ≡ p.room → IsFabric (record a { pools = with_item a.pools m p' })
+pub pools-kept : (a : Inside) (m : ℕ) (p p' : Stock) → IsFabric a → PoolAt a m p → p'.home ≡ p.home → p'.size ≡ p.size → p'.room ≡ p.room →
+    IsFabric (record a { pools = with_item a.pools m p' })
 pools-kept a m p p' fab found home size room =
     record {
       shared = record {
@@ -65,20 +66,24 @@ pools-kept a m p p' fab found home size room =
       inboxes = fab.inboxes;
     }
 
-pub pools-changed : (a : Inside) (m n : ℕ) (p' : Stock) → p'.count ≡ n → shared_of (record a { pools = with_item a.pools m p' }) ≡ record (shared_of a) { pools = slice_set (shared_of a).pools m n }
+pub pools-changed : (a : Inside) (m n : ℕ) (p' : Stock) → p'.count ≡ n →
+    shared_of (record a { pools = with_item a.pools m p' }) ≡ record (shared_of a) { pools = slice_set (shared_of a).pools m n }
 pools-changed a m n p' e =
     ap (λ ps. record (shared_of a) { pools = ps }) (map-set (λ q. q.count) a.pools.items m p' ∙ ap (slice_set (map (λ q. q.count) a.pools.items) m) e)
 
-pub fetch-answer : (a : Inside) (m : ℕ) (p : Stock) (r : Option Batch) → PoolAt a m p → r ≡ cond (nat_lt 0 p.count) (Some (empty_buffer p.home p.size)) None → r ≡ fetch_answer (shared_of a) m
+pub fetch-answer : (a : Inside) (m : ℕ) (p : Stock) (r : Option Batch) → PoolAt a m p → r ≡ cond (nat_lt 0 p.count) (Some (empty_buffer p.home p.size)) None →
+    r ≡ fetch_answer (shared_of a) m
 fetch-answer a m p r found e =
     e ∙ ap (λ n. cond (nat_lt 0 n) (Some (empty_buffer p.home p.size)) None) (sym found.count)
     ∙ ap (λ h. cond (nat_lt 0 (pool_at (shared_of a) m)) (Some (empty_buffer h p.size)) None) found.home
     ∙ ap (λ z. cond (nat_lt 0 (pool_at (shared_of a) m)) (Some (empty_buffer m z)) None) found.size
 
-pub fetch-change : (a : Inside) (m : ℕ) (p p' : Stock) → PoolAt a m p → p' ≡ record p { count = p.count - 1 } → shared_of (record a { pools = with_item a.pools m p' }) ≡ after_fetch (shared_of a) m
+pub fetch-change : (a : Inside) (m : ℕ) (p p' : Stock) → PoolAt a m p → p' ≡ record p { count = p.count - 1 } →
+    shared_of (record a { pools = with_item a.pools m p' }) ≡ after_fetch (shared_of a) m
 fetch-change a m p p' found e = pools-changed a m (pool_at (shared_of a) m - 1) p' (ap (λ q. q.count) e ∙ ap (λ n. n - 1) (sym found.count))
 
-pub restore-change : (a : Inside) (m : ℕ) (p p' : Stock) → PoolAt a m p → p' ≡ record p { count = p.count + 1 } → shared_of (record a { pools = with_item a.pools m p' }) ≡ after_restore (shared_of a) m
+pub restore-change : (a : Inside) (m : ℕ) (p p' : Stock) → PoolAt a m p → p' ≡ record p { count = p.count + 1 } →
+    shared_of (record a { pools = with_item a.pools m p' }) ≡ after_restore (shared_of a) m
 restore-change a m p p' found e = pools-changed a m (pool_at (shared_of a) m + 1) p' (ap (λ q. q.count) e ∙ ap (λ n. n + 1) (sym found.count))
 
 -- ---- inboxes
@@ -90,7 +95,8 @@ pub record InboxAt (a : Inside) (m k : ℕ) (q : Queue) : Type 0 where
 stage-there : (s : Shared) (k : ℕ) → IsMessageStage s k → (nat_lt 0 k && nat_lt k s.shape.stages) ≡ true
 stage-there s k stage = let low = stage.0 in let high = stage.1 in grind (arith, nat_tests, low, high)
 
-pub inbox-found : (a : Inside) (m k i : ℕ) (q : Queue) → IsFabric a → IsMessageStage (shared_of a) k → i ≡ inbox_place (shared_of a) m k → i < length (shared_of a).inboxes → q ≡ get_or a.inboxes.items i q → InboxAt a m k q
+pub inbox-found : (a : Inside) (m k i : ℕ) (q : Queue) → IsFabric a → IsMessageStage (shared_of a) k → i ≡ inbox_place (shared_of a) m k → i < length (shared_of a).inboxes →
+    q ≡ get_or a.inboxes.items i q → InboxAt a m k q
 inbox-found a m k i q fab stage place within e =
     let len = length-map a.inboxes.items (λ u. u.messages) in
     let at : slice_get a.inboxes.items (inbox_place (shared_of a) m k) ≡ Some q =
@@ -119,7 +125,8 @@ inboxes-kept a i q q' fab at room =
       inboxes = λ j u e. elim (get-of_set a.inboxes.items i j q' u e) [ inl new ↦ ap (λ v. v.room) new.1 ∙ room ∙ fab.inboxes i q at | inr old ↦ fab.inboxes j u old ];
     }
 
-pub inboxes-changed : (a : Inside) (i : ℕ) (ms : List Message) (q' : Queue) → q'.messages ≡ ms → shared_of (record a { inboxes = with_item a.inboxes i q' }) ≡ record (shared_of a) { inboxes = slice_set (shared_of a).inboxes i ms }
+pub inboxes-changed : (a : Inside) (i : ℕ) (ms : List Message) (q' : Queue) → q'.messages ≡ ms →
+    shared_of (record a { inboxes = with_item a.inboxes i q' }) ≡ record (shared_of a) { inboxes = slice_set (shared_of a).inboxes i ms }
 inboxes-changed a i ms q' e =
     ap (λ qs. record (shared_of a) { inboxes = qs }) (map-set (λ u. u.messages) a.inboxes.items i q' ∙ ap (slice_set (map (λ u. u.messages) a.inboxes.items) i) e)
 
@@ -185,10 +192,12 @@ restored a s m n p p' fab view same within read changed =
       restore-change a m p p' found changed ∙ ap (λ h. after_restore h m) view ∙ ap (after_restore s) same,
     )
 
-pub pushed : (a : Inside) (s : Shared) (b : Message) (i : ℕ) (q q' : Queue) → IsFabric a → shared_of a ≡ s → IsMessageStage s b.stage → i ≡ inbox_place s b.to b.stage → i < length s.inboxes → q ≡ get_or a.inboxes.items i q →
+pub pushed : (a : Inside) (s : Shared) (b : Message) (i : ℕ) (q q' : Queue) → IsFabric a → shared_of a ≡ s → IsMessageStage s b.stage → i ≡ inbox_place s b.to b.stage →
+    i < length s.inboxes → q ≡ get_or a.inboxes.items i q →
     nat_lt (length q.messages) q.room ≡ true → q' ≡ record q { messages = q.messages ++ b ∷ [] } → Pushed a s b i q'
 pushed a s b i q q' fab view stage place within read space changed =
-    let found = inbox-found a b.to b.stage i q fab (subst (λ h. IsMessageStage h b.stage) (sym view) stage) (place ∙ ap (λ h. inbox_place h b.to b.stage) (sym view)) (subst (λ h. i < length h.inboxes) (sym view) within) read in
+    let found = inbox-found a b.to b.stage i q fab (subst (λ h. IsMessageStage h b.stage) (sym view) stage) (place ∙ ap (λ h. inbox_place h b.to b.stage) (sym view))
+    (subst (λ h. i < length h.inboxes) (sym view) within) read in
     let at = place ∙ ap (λ h. inbox_place h b.to b.stage) (sym view) in
     let kept = inboxes-kept a (inbox_place (shared_of a) b.to b.stage) q q' fab found.at (ap (λ u. u.room) changed) in (
       subst (λ j. IsFabric (record a { inboxes = with_item a.inboxes j q' })) (sym at) kept,
@@ -196,13 +205,16 @@ pushed a s b i q q' fab view stage place within read space changed =
       ap (λ j. shared_of (record a { inboxes = with_item a.inboxes j q' })) at ∙ push-change a b q q' found changed ∙ ap (λ h. after_push h b) view,
     )
 
-pub not-pushed : (a : Inside) (s : Shared) (b : Message) (i : ℕ) (q : Queue) → IsFabric a → shared_of a ≡ s → IsMessageStage s b.stage → i ≡ inbox_place s b.to b.stage → i < length s.inboxes → q ≡ get_or a.inboxes.items i q →
+pub not-pushed : (a : Inside) (s : Shared) (b : Message) (i : ℕ) (q : Queue) → IsFabric a → shared_of a ≡ s → IsMessageStage s b.stage → i ≡ inbox_place s b.to b.stage →
+    i < length s.inboxes → q ≡ get_or a.inboxes.items i q →
     nat_lt (length q.messages) q.room ≡ false → can_push s b.to b.stage ≡ false
 not-pushed a s b i q fab view stage place within read space =
-    let found = inbox-found a b.to b.stage i q fab (subst (λ h. IsMessageStage h b.stage) (sym view) stage) (place ∙ ap (λ h. inbox_place h b.to b.stage) (sym view)) (subst (λ h. i < length h.inboxes) (sym view) within) read in
+    let found = inbox-found a b.to b.stage i q fab (subst (λ h. IsMessageStage h b.stage) (sym view) stage) (place ∙ ap (λ h. inbox_place h b.to b.stage) (sym view))
+    (subst (λ h. i < length h.inboxes) (sym view) within) read in
     ap (λ h. can_push h b.to b.stage) (sym view) ∙ sym (space-found a b.to b.stage q found) ∙ space
 
-pub popped : (a : Inside) (s : Shared) (m n k i : ℕ) (q q' : Queue) (r : Option Message) → IsFabric a → shared_of a ≡ s → m ≡ n → IsMessageStage s k → i ≡ inbox_place s m k → i < length s.inboxes → q ≡ get_or a.inboxes.items i q →
+pub popped : (a : Inside) (s : Shared) (m n k i : ℕ) (q q' : Queue) (r : Option Message) → IsFabric a → shared_of a ≡ s → m ≡ n → IsMessageStage s k → i ≡ inbox_place s m k →
+    i < length s.inboxes → q ≡ get_or a.inboxes.items i q →
     r ≡ first_of q.messages → q' ≡ record q { messages = rest_of q.messages } → Popped a s n k i q' r
 popped a s m n k i q q' r fab view number stage place within read answered changed =
     let at = place ∙ ap (λ h. inbox_place h m k) (sym view) in

@@ -1,6 +1,6 @@
 -- What each call on what is shared may do, what it answers, and what it leaves.
 use Rattle.std.specs.Prelude.{◌≡◌, ℕ, ◌+◌, ◌-◌, ◌<◌, ◌≤◌, Bool, false, min, ◌==◌, nat_lt, if◌then◌else◌, List, [], ◌∷◌, ◌++◌, length, slice_set, Option, Some, None}
-use Rattle.adfs_base.specs.Shape.{Extents, limit_of, pool_of}
+use Rattle.adfs_base.specs.Shape.{Extents, limit_of}
 use Rattle.adfs_base.specs.declared.step_answers.Charge.{Charge}
 use Rattle.adfs_base.specs.declared.step_answers.Charge.TheVariants.{Charged, Full}
 use Rattle.adfs_base.specs.declared.step_answers.Claimed.{Claimed}

@@ -1,5 +1,5 @@
 -- What the calls on any fabric answer, and what they leave.
-use Rattle.std.specs.Prelude.{◌≡◌, ℕ, ◌/◌, ◌*◌, ◌<◌, Bool, Option, Some, None, Result, Ok, Err}
+use Rattle.std.specs.Prelude.{◌≡◌, ℕ, ◌/◌}
 use Rattle.adfs_base.specs.Shape.{Extents}
 use Rattle.adfs_base.specs.declared.step_answers.Charge.{Charge}
 use Rattle.adfs_base.specs.declared.step_answers.Charge.TheVariants as charge
@@ -11,9 +11,7 @@ use Rattle.adfs_base.specs.declared.step_answers.Marked.{Marked}
 use Rattle.adfs_base.specs.declared.step_answers.Marked.TheVariants as marked
 use Rattle.adfs_base.specs.declared.step_answers.Pick.{Pick}
 use Rattle.adfs_base.specs.declared.step_answers.Pick.TheVariants as pick
-use Rattle.match_context.specs.Batch.{Batch}
-use Rattle.match_context.specs.declared.message.Message.{Message}
-use Rattle.fabric.specs.Account.{Holding, SameHolding, Call, Given, Nothing, Taken, Came, Allows, IsGiven, holds_after}
+use Rattle.fabric.specs.Account.{Holding, SameHolding, Call, Given, Allows, IsGiven, holds_after}
 
 -- The worker holds something that allows the call.
 abbrev pub MayCall : {F : Type 0} → (F → ℕ → Holding → Type 0) → (F → Extents) → F → ℕ → Call → Type 0

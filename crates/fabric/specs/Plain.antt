@@ -1,5 +1,5 @@
 -- What a plain fabric answers to each call, and what it asks of its callers.
-use Rattle.std.specs.Prelude.{◌≡◌, ℕ, ◌+◌, ◌<◌, ◌≤◌, Bool, true, false, ◌==◌, if◌then◌else◌, List, slice_get, Option, Some, None}
+use Rattle.std.specs.Prelude.{◌≡◌, ℕ, ◌+◌, ◌<◌, ◌≤◌, Bool, true, ◌==◌, if◌then◌else◌, List, slice_get, Option, Some, None}
 use Rattle.adfs_base.specs.Shape.{Extents, pool_of}
 use Rattle.match_context.specs.Bags.{total}
 use Rattle.match_context.specs.declared.message.Message.{Message}
@@ -38,6 +38,10 @@ PlainDone old worker call given new = outcome old worker call ≡ Some (given, n
 
 abbrev pub PlainExcused : Shared → ℕ → Call → Shared → Type 0
 PlainExcused old worker call new = (outcome old worker call ≡ None) × (new ≡ old)
+
+-- the numbers of the run
+abbrev pub plain_shape : Shared → Extents
+plain_shape s = s.shape
 
 -- the credits of a word that the holder has, where it is of machine `own`
 abbrev pub credits_held : Holding → ℕ → ℕ → ℕ → ℕ → ℕ

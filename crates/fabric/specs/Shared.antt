@@ -1,5 +1,5 @@
 -- What all workers share, as contracts see it.
-use Rattle.std.specs.Prelude.{◌≡◌, ℕ, ◌+◌, ◌-◌, ◌*◌, ◌/◌, ◌<◌, ◌≤◌, Bool, ◌&&◌, max, min, nat_lt, if◌then◌else◌, List, [], length, slice_index, slice_get, replicate, Option, Some, None}
+use Rattle.std.specs.Prelude.{◌≡◌, ℕ, ◌+◌, ◌-◌, ◌*◌, ◌/◌, ◌<◌, ◌≤◌, ◌&&◌, max, nat_lt, if◌then◌else◌, List, [], length, slice_index, slice_get, replicate, Option, None}
 use Rattle.adfs_base.specs.Shape.{Extents, IsShape, pool_of}
 use Rattle.adfs_base.specs.declared.step_answers.Word.{Word}
 use Rattle.adfs_base.specs.declared.step_answers.Word.TheVariants.{Enrolled, Used}

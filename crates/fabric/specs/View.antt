@@ -1,5 +1,5 @@
 -- A plain fabric as contracts see it.
-use Rattle.std.specs.Prelude.{◌≡◌, ℕ, map, slice_get, Option, Some}
+use Rattle.std.specs.Prelude.{◌≡◌, ℕ, map, slice_get, Some}
 use Rattle.adfs_base.specs.Shape.{pool_of}
 use Rattle.fabric.specs.Shared.{Shared, IsShared, room_of}
 use Rattle.fabric.specs.Queue.{Queue, Stock}

@@ -10,6 +10,7 @@
 //! none costs more where there are more machines, workers or stages. An inbox that doesn't exist is empty.
 #![tactic(auto)]
 
+mod as_fabric;
 mod inbox;
 mod plain;
 mod pool;

@@ -9,7 +9,7 @@ use Rattle.value_text.specs.Valid.{IsValid}
 use Rattle.element_store.proofs.ElementFacts.{cells_in-push}
 use Rattle.element_store.specs.Columns.{Column, named}
 use Rattle.element_store.specs.Elements.{Element, Filled}
-use Rattle.graph_tables.specs.Graph.{Edge, EndsIn, IsShown, cells_made, without_ends}
+use Rattle.graph_tables.specs.Graph.{Edge, EndsIn, HasTypes, IsShown, cells_made, without_ends}
 use Rattle.graph_tables.specs.Loading.{IsReadable, IsSound, KeepsTables, edges_with, filled_of, graph_of}
 use Rattle.graph_tables.specs.declared.element_kind.ElementKind.{ElementKind}
 use Rattle.graph_tables.specs.declared.element_kind.ElementKind.TheVariants as element
@@ -17,6 +17,8 @@ use Rattle.graph_tables.specs.Limits.{most_cells, most_edges, most_vertices}
 use Rattle.graph_tables.specs.declared.loading.Ends.{Ends}
 use Rattle.graph_tables.specs.declared.loading.Loading.{Loading}
 use Rattle.graph_tables.proofs.GraphFacts.{edges_with-push, without_ends-edges_with}
+use Rattle.graph_tables.proofs.TypeFacts.{elements_still}
+use Rattle.graph_tables.specs.Properties.{AreTyped, Extends}
 
 take-take-le : {A : Type 0} (m n : ℕ) (xs : List A) → m ≤ n → take m (take n xs) ≡ take m xs
 take-take-le zero n xs h = refl
@@ -59,22 +61,26 @@ ends_still old new edges le all = all_map (EndsIn old) (EndsIn new) edges (λ e 
 
 -- with one more vertex
 pub sound_vertex : (l : Loading) (f : Filled) (texts : List (List ℕ)) (v : Element) → IsSound l
-    → f.elements ≡ l.vertices.elements ++ v ∷ [] → f.tables ≡ l.vertices.tables → f.label ≡ l.vertices.label
-    → IsShown texts v → length l.texts ≤ length texts → length texts ≤ length l.texts + length v.values
+    → f.elements ≡ l.vertices.elements ++ v ∷ [] → f.tables ≡ l.vertices.tables → f.label ≡ l.vertices.label → f.columns ≡ l.vertices.columns
+    → IsShown texts v → HasTypes l.vertex_properties v → length l.texts ≤ length texts → length texts ≤ length l.texts + length v.values
     → length l.vertices.elements < most_vertices → cells_made (graph_of l) + length v.values ≤ most_cells
     → IsSound (record l { vertices = f; texts = texts })
-sound_vertex l f texts v s elements tables label shown grown few room cells =
+sound_vertex l f texts v s elements tables label columns shown typed grown few room cells =
     let more = cells_in-push l.vertices.elements v in
     let size = length-append l.vertices.elements (v ∷ []) in
     record {
       whole = record {
         vertices_shown = rw elements (all_push (IsShown texts) l.vertices.elements v (shown_still l.texts texts l.vertices.elements grown s.whole.vertices_shown) shown);
         edges_shown = shown_still l.texts texts (without_ends (edges_with l.edges.elements l.ends.items)) grown s.whole.edges_shown;
+        vertices_typed = rw elements (all_push (HasTypes l.vertex_properties) l.vertices.elements v s.whole.vertices_typed typed);
+        edges_typed = s.whole.edges_typed;
         ends = rw elements (ends_still l.vertices.elements (l.vertices.elements ++ v ∷ []) (edges_with l.edges.elements l.ends.items) (omega (arith, size)) s.whole.ends);
       };
       ends_beside = s.ends_beside;
       vertex_label = λ some. rw label (omega (arith, grown, s.vertex_label (rw (← tables) some)));
       edge_label = λ some. omega (arith, grown, s.edge_label some);
+      vertex_columns = rw columns s.vertex_columns;
+      edge_columns = s.edge_columns;
       few_vertices = rw (elements, size) (omega (arith, room));
       few_edges = s.few_edges;
       few_cells = rw (elements, more) (omega (arith, cells));
@@ -84,11 +90,12 @@ sound_vertex l f texts v s elements tables label shown grown few room cells =
 -- with one more edge
 pub sound_edge : (l l2 : Loading) (e : Element) (at : Ends) → IsSound l
     → l2.edges.elements ≡ l.edges.elements ++ e ∷ [] → l2.ends.items ≡ l.ends.items ++ at ∷ [] → l2.edges.tables ≡ l.edges.tables → l2.edges.label ≡ l.edges.label → l2.vertices ≡ l.vertices
-    → IsShown l2.texts e → at.source < length l.vertices.elements → at.target < length l.vertices.elements
+    → l2.edges.columns ≡ l.edges.columns → l2.vertex_properties ≡ l.vertex_properties → l2.edge_properties ≡ l.edge_properties
+    → IsShown l2.texts e → HasTypes l.edge_properties e → at.source < length l.vertices.elements → at.target < length l.vertices.elements
     → length l.texts ≤ length l2.texts → length l2.texts ≤ length l.texts + length e.values
     → length l.edges.elements < most_edges → cells_made (graph_of l) + length e.values ≤ most_cells
     → IsSound l2
-sound_edge l l2 e at s elements beside tables label vertices shown source target grown few room cells =
+sound_edge l l2 e at s elements beside tables label vertices columns vertex_types edge_types shown typed source target grown few room cells =
     let more = cells_in-push l.edges.elements e in
     let size = length-append l.edges.elements (e ∷ []) in
     let pushed = edges_with-push l.edges.elements l.ends.items e at s.ends_beside in
@@ -96,17 +103,22 @@ sound_edge l l2 e at s elements beside tables label vertices shown source target
     let longer : length (l.ends.items ++ at ∷ []) ≡ length (l.edges.elements ++ e ∷ []) = length-append l.ends.items (at ∷ []) ∙ omega (arith, size, s.ends_beside) in
     let new = without_ends-edges_with (l.edges.elements ++ e ∷ []) (l.ends.items ++ at ∷ []) longer in
     let old_shown = rw old at s.whole.edges_shown in
+    let old_typed = rw old at s.whole.edges_typed in
     let cells_were = rw old at cells in
     let old_texts = rw old at s.few_texts in
     record {
       whole = record {
         vertices_shown = rw vertices (shown_still l.texts l2.texts l.vertices.elements grown s.whole.vertices_shown);
         edges_shown = rw (elements, beside, new) (all_push (IsShown l2.texts) l.edges.elements e (shown_still l.texts l2.texts l.edges.elements grown old_shown) shown);
+        vertices_typed = rw (vertices, vertex_types) s.whole.vertices_typed;
+        edges_typed = rw (elements, beside, new, edge_types) (all_push (HasTypes l.edge_properties) l.edges.elements e old_typed typed);
         ends = rw (vertices, elements, beside, pushed) (all_push (EndsIn l.vertices.elements) (edges_with l.edges.elements l.ends.items) _ s.whole.ends (source, target));
       };
       ends_beside = rw (elements, beside) longer;
       vertex_label = rw vertices (λ some. omega (arith, grown, s.vertex_label some));
       edge_label = rw (tables, label) (λ some. omega (arith, grown, s.edge_label some));
+      vertex_columns = rw (vertices, vertex_types) s.vertex_columns;
+      edge_columns = rw (columns, edge_types) s.edge_columns;
       few_vertices = rw vertices s.few_vertices;
       few_edges = rw (elements, size) (omega (arith, room));
       few_cells = rw (vertices, elements, beside, new, more) (omega (arith, cells_were));
@@ -115,16 +127,21 @@ sound_edge l l2 e at s elements beside tables label vertices shown source target
 
 -- with one more table
 pub sound_vertex_table : (l l2 : Loading) → IsSound l → l2.vertices.elements ≡ l.vertices.elements → l2.vertices.tables ≡ l.vertices.tables + 1 → l2.vertices.label < length l2.texts
-    → l2.edges ≡ l.edges → l2.ends.items ≡ l.ends.items → length l.texts ≤ length l2.texts → length l2.texts ≤ length l.texts + 1 → IsSound l2
-sound_vertex_table l l2 s elements tables label edges ends grown few = record {
+    → l2.edges ≡ l.edges → l2.ends.items ≡ l.ends.items → length l.texts ≤ length l2.texts → length l2.texts ≤ length l.texts + 1
+    → Extends l.vertex_properties l2.vertex_properties → AreTyped l2.vertex_properties l2.vertices.columns → l2.edge_properties ≡ l.edge_properties → IsSound l2
+sound_vertex_table l l2 s elements tables label edges ends grown few more columns other = record {
   whole = record {
     vertices_shown = rw elements (shown_still l.texts l2.texts l.vertices.elements grown s.whole.vertices_shown);
     edges_shown = rw (edges, ends) (shown_still l.texts l2.texts (without_ends (edges_with l.edges.elements l.ends.items)) grown s.whole.edges_shown);
+    vertices_typed = rw elements (elements_still l.vertex_properties l2.vertex_properties l.vertices.elements more s.whole.vertices_typed);
+    edges_typed = rw (edges, ends, other) s.whole.edges_typed;
     ends = rw (elements, edges, ends) s.whole.ends;
   };
   ends_beside = rw (edges, ends) s.ends_beside;
   vertex_label = λ some. label;
   edge_label = rw edges (λ some. omega (arith, grown, s.edge_label some));
+  vertex_columns = columns;
+  edge_columns = rw (edges, other) s.edge_columns;
   few_vertices = rw elements s.few_vertices;
   few_edges = rw edges s.few_edges;
   few_cells = rw (elements, edges, ends) s.few_cells;
@@ -132,16 +149,21 @@ sound_vertex_table l l2 s elements tables label edges ends grown few = record {
 }
 
 pub sound_edge_table : (l l2 : Loading) → IsSound l → l2.edges.elements ≡ l.edges.elements → l2.edges.tables ≡ l.edges.tables + 1 → l2.edges.label < length l2.texts
-    → l2.vertices ≡ l.vertices → l2.ends.items ≡ l.ends.items → length l.texts ≤ length l2.texts → length l2.texts ≤ length l.texts + 1 → IsSound l2
-sound_edge_table l l2 s elements tables label vertices ends grown few = record {
+    → l2.vertices ≡ l.vertices → l2.ends.items ≡ l.ends.items → length l.texts ≤ length l2.texts → length l2.texts ≤ length l.texts + 1
+    → Extends l.edge_properties l2.edge_properties → AreTyped l2.edge_properties l2.edges.columns → l2.vertex_properties ≡ l.vertex_properties → IsSound l2
+sound_edge_table l l2 s elements tables label vertices ends grown few more columns other = record {
   whole = record {
     vertices_shown = rw vertices (shown_still l.texts l2.texts l.vertices.elements grown s.whole.vertices_shown);
     edges_shown = rw (elements, ends) (shown_still l.texts l2.texts (without_ends (edges_with l.edges.elements l.ends.items)) grown s.whole.edges_shown);
+    vertices_typed = rw (vertices, other) s.whole.vertices_typed;
+    edges_typed = rw (elements, ends) (elements_still l.edge_properties l2.edge_properties (without_ends (edges_with l.edges.elements l.ends.items)) more s.whole.edges_typed);
     ends = rw (vertices, elements, ends) s.whole.ends;
   };
   ends_beside = rw (elements, ends) s.ends_beside;
   vertex_label = rw vertices (λ some. omega (arith, grown, s.vertex_label some));
   edge_label = λ some. label;
+  vertex_columns = rw (vertices, other) s.vertex_columns;
+  edge_columns = columns;
   few_vertices = rw vertices s.few_vertices;
   few_edges = rw elements s.few_edges;
   few_cells = rw (vertices, elements, ends) s.few_cells;

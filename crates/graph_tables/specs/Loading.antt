@@ -4,6 +4,7 @@ use Rattle.std.specs.List.{AllByRecursion}
 use Rattle.element_store.specs.Elements.{Element, Filled}
 use Rattle.graph_tables.specs.Graph.{Edge, EndsIn, IsWhole, PropertyGraph, cells_made}
 use Rattle.graph_tables.specs.Limits.{most_cells, most_edges, most_vertices}
+use Rattle.graph_tables.specs.Properties.{AreTyped}
 use Rattle.graph_tables.specs.declared.loading.Ends.{Ends}
 use Rattle.graph_tables.specs.declared.loading.Loading.{Loading}
 use Rattle.graph_tables.specs.declared.element_kind.ElementKind.{ElementKind}
@@ -39,12 +40,15 @@ tables_in l = l.vertices.tables + l.edges.tables
 abbrev pub LabelIn : List (List ℕ) → Filled → Type 0
 LabelIn texts f = 0 < f.tables → f.label < length texts
 
--- The graph so far is whole and keeps within the limits, and its texts are no more than its cells and tables.
+-- The graph so far is whole and keeps within the limits, the columns that grow have their properties' kinds, and the texts
+-- are no more than cells and tables.
 pub record IsSound (l : Loading) : Type 0 where
   pub whole : IsWhole (graph_of l)
   pub ends_beside : length l.ends.items ≡ length l.edges.elements
   pub vertex_label : LabelIn l.texts l.vertices
   pub edge_label : LabelIn l.texts l.edges
+  pub vertex_columns : AreTyped l.vertex_properties l.vertices.columns
+  pub edge_columns : AreTyped l.edge_properties l.edges.columns
   pub few_vertices : length l.vertices.elements ≤ most_vertices
   pub few_edges : length l.edges.elements ≤ most_edges
   pub few_cells : cells_made (graph_of l) ≤ most_cells
@@ -71,3 +75,10 @@ pub record IsReadable (l : Loading) : Type 0 where
   pub ends : AllByRecursion (EndsIn l.vertices.elements) (edges_with l.edges.elements l.ends.items)
   pub few_vertices : length l.vertices.elements < 2 ^ 32
   pub few_edges : length l.edges.elements < 2 ^ 32
+
+-- What a bare graph keeps: ends beside its edges, which are vertices, and numbers that fit 32 bits.
+pub record IsBare (vertices edges : List Element) (ends : List Ends) : Type 0 where
+  pub ends_beside : length ends ≡ length edges
+  pub at_vertices : AllByRecursion (EndsIn vertices) (edges_with edges ends)
+  pub few_vertices : length vertices < 2 ^ 32
+  pub few_edges : length edges < 2 ^ 32

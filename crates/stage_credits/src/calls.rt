@@ -1,6 +1,6 @@
 //! The calls of a worker: each tries once.
-ghost use Rattle.std.specs.Prelude.{◌≡◌, ◌<◌, ◌≤◌, ℕ};
-ghost use Rattle.stage_credits.specs.Layout.{unit_of, flying_of, enrolled_of, place_of, stage_of, IsWord};
+ghost use Rattle.std.specs.Prelude.{◌≡◌, ◌<◌, ◌≤◌, ◌^◌, ℕ};
+ghost use Rattle.stage_credits.specs.Layout.{unit_of, flying_of, enrolled_of, place_of, stage_of, sender_of, stage_start, limit_at, IsUnit, IsWord};
 ghost use Rattle.stage_credits.specs.Lists.{times};
 ghost use Rattle.stage_credits.specs.Views.{after_post, after_discharge, after_retire};
 ghost use Rattle.stage_credits.specs.Seats.{IsSeatOf, IsSameSeat, MayCharge, HasMarkedAll};
@@ -23,6 +23,19 @@ impl Credits {
     {
         let unit = self.setup.unit(seat.machine, stage, to);
         let limit = u64::from(self.setup.limit(seat.machine, to));
+        self.take_credit(seat, stage, unit, limit)
+    }
+
+    /// Takes a credit of the unit, unless its limit is reached.
+    fn take_credit(&self, seat: &mut CreditSeat, stage: u32, unit: u64, limit: u64) -> Charge
+        requires seat { IsSeatOf self.now seat.old }
+        requires unit { IsUnit self.now.setup unit × (sender_of self.now.setup unit ≡ seat.old.machine) }
+        requires stage { stage_start self.now.setup stage ≤ unit }
+        requires limit { (limit ≡ limit_at self.now.setup unit) × (limit < 2 ^ 32) }
+        requires may { MayCharge self.now.setup seat.old.machine stage seat.old.view }
+        ensures seat { IsSameSeat seat.old seat.new }
+        ensures told { ChargeTells self.now.setup unit seat.old.view result seat.new.view }
+    {
         let seen = self.look(seat, unit);
         if seen >= limit {
             return Charge::Full(seen);

@@ -1,3 +1,4 @@
+//! The counters, and the seats of the workers.
 ghost use Rattle.std.specs.Prelude.{◌≡◌};
 ghost use Rattle.stage_credits.specs.Seats.{IsOfWorker};
 

@@ -1,3 +1,4 @@
+//! The numbers that no step changes.
 use adfs_base::Shape;
 
 /// The numbers that no step changes: the shape of the run, and how many roots each machine has.

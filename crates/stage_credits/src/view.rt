@@ -1,3 +1,4 @@
+//! What a seat knows, for contracts alone.
 use crate::setup::Setup;
 use std::collections::LinkedList;
 

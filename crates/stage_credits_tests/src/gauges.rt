@@ -1,3 +1,4 @@
+//! Counts of the players' own, beside the counters that are tested.
 ghost use Rattle.std.specs.Prelude.{◌<◌};
 
 use crate::player::Buffer;

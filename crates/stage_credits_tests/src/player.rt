@@ -1,3 +1,4 @@
+//! A worker as the tests have it.
 ghost use Rattle.std.specs.Prelude.{◌≡◌, None, replicate};
 ghost use Rattle.stage_credits_tests.specs.Players.{IsBuffer, IsReady, SitsAt};
 

@@ -1,4 +1,4 @@
-// What no clause says: that the calls go well when they can, and that they count what other counters count.
+//! What no clause says: that the calls go well when they can, and that they count what other counters count.
 use super::*;
 use adfs_base::{Charge, Closing, Gate, HoldGate, Marked, Pick};
 use std::test::Fail;

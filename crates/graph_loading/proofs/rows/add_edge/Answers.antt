@@ -9,6 +9,7 @@ use Rattle.graph_loading.proofs.SoundFacts.{kept_length, named_valid, sound_edge
 use Rattle.std.proofs.lemmas.Result.{err_from_is_err_and}
 use Rattle.csv.specs.Records.{fields_of}
 use Rattle.graph_tables.specs.Loading.{graph_of}
+use Rattle.graph_tables.proofs.TypeFacts.{named_typed}
 use Rattle.graph_tables.proofs.GraphFacts.{edges_with-push, without_ends-edges_with}
 use Rattle.graph_loading.proofs.RowLaws.{edge_added, edge_ends_failed, edge_key_failed, edge_values_failed}
 use Rattle.graph_loading.proofs.rows.add_edge.Goals as goal
@@ -81,5 +82,7 @@ returns-clause-sound c =
     let e : Element = record { key = c.in_ok-key.key; label = c.args.loading.now.edges.label; values = named columns values } in
     sound_edge c.args.loading.now c.push_edge.new.loading e c.in_ok-ends.ends c.requires.sound (rw (c.in_ok-push_edge.ensures.edges, c.deref.ensures.value, key) refl) c.in_ok-push_edge.ensures.ends
     (rw c.in_ok-push_edge.ensures.edges refl) (rw c.in_ok-push_edge.ensures.edges refl) c.in_ok-push_edge.ensures.vertices
-    (rw texts (omega (arith, label, grown), named_valid c.read_values.new.texts columns values c.in_ok-read_values.ensures.read.valid)) c.in_ok-ends.ensures.source c.in_ok-ends.ensures.target
+    (rw c.in_ok-push_edge.ensures.edges refl) c.in_ok-push_edge.ensures.vertex_properties c.in_ok-push_edge.ensures.edge_properties
+    (rw texts (omega (arith, label, grown), named_valid c.read_values.new.texts columns values c.in_ok-read_values.ensures.read.valid))
+    (named_typed c.args.loading.now.edge_properties columns values c.requires.sound.edge_columns kinds) c.in_ok-ends.ensures.source c.in_ok-ends.ensures.target
     (rw texts grown) (rw texts (omega (arith, few, named_size, size))) c.requires.edges (omega (arith, c.requires.cells, named_size, size))

@@ -8,6 +8,7 @@ use Rattle.element_store.proofs.RowFacts.{kinds_length}
 use Rattle.element_store.specs.Columns.{named}
 use Rattle.element_store.specs.Elements.{Element}
 use Rattle.graph_tables.specs.Loading.{graph_of}
+use Rattle.graph_tables.proofs.TypeFacts.{named_typed}
 use Rattle.graph_loading.proofs.RowLaws.{vertex_added, vertex_key_failed, vertex_values_failed}
 use Rattle.graph_loading.proofs.SoundFacts.{kept_length, named_valid, sound_vertex}
 use Rattle.graph_loading.proofs.rows.add_vertex.Goals as goal
@@ -45,6 +46,7 @@ returns-clause-sound c =
     let few = rw c.columns-columns.ensures at c.in_ok-read_values.ensures.read.room in
     let label = c.requires.sound.vertex_label c.requires.table in
     let v : Element = record { key = c.in_ok-key.key; label = c.args.loading.now.vertices.label; values = named columns values } in
-    sound_vertex c.args.loading.now c.add.new.self c.read_values.new.texts v c.requires.sound (rw (c.in_ok-add.ensures.ok, c.deref.ensures.value, key) refl) (rw c.in_ok-add.ensures.ok refl) (rw c.in_ok-add.ensures.ok refl)
-    (omega (arith, label, grown), named_valid c.read_values.new.texts columns values c.in_ok-read_values.ensures.read.valid) grown (omega (arith, few, named_size, size)) c.requires.vertices
+    sound_vertex c.args.loading.now c.add.new.self c.read_values.new.texts v c.requires.sound (rw (c.in_ok-add.ensures.ok, c.deref.ensures.value, key) refl) (rw c.in_ok-add.ensures.ok refl) (rw c.in_ok-add.ensures.ok refl) (rw c.in_ok-add.ensures.ok refl)
+    (omega (arith, label, grown), named_valid c.read_values.new.texts columns values c.in_ok-read_values.ensures.read.valid)
+    (named_typed c.args.loading.now.vertex_properties columns values c.requires.sound.vertex_columns kinds) grown (omega (arith, few, named_size, size)) c.requires.vertices
     (omega (arith, c.requires.cells, named_size, size))

@@ -1,4 +1,4 @@
-use Rattle.std.proofs.Common.{rules, ◌≡◌, ℕ, ◌+◌, ◌-◌, ◌*◌, max, ap, sym, ◌∙◌, refl, arith, replicate}
+use Rattle.std.proofs.Common.{rules, ◌≡◌, ◌*◌, ap, ◌∙◌, refl, replicate}
 use Rattle.fabric.specs.Queue.{empty_queue}
 use Rattle.fabric.specs.Shared.{room_of}
 use Rattle.fabric.proofs.Starts.{IsNew, new-is, new-kept}

@@ -1,5 +1,4 @@
-use Rattle.std.proofs.Common.{◌≡◌, ◌<◌, ◌≤◌, true, false, refl, sym, ap, subst, ◌∙◌, arith, length}
-use Rattle.std.specs.Prelude.{nat_lt}
+use Rattle.std.proofs.Common.{ap, arith}
 use Rattle.fabric.specs.Shared.{machine_of, IsMessageStage}
 use Rattle.fabric.proofs.Tables.{Popped, popped}
 use Rattle.fabric.proofs.plain.PlainFabric.pop.Goals as goal

@@ -1,6 +1,5 @@
-use Rattle.std.proofs.Common.{◌≡◌, ◌<◌, ◌≤◌, true, false, refl, sym, ap, subst, ◌∙◌, arith, length}
+use Rattle.std.proofs.Common.{refl, sym, ap, ◌∙◌, length}
 use Rattle.std.specs.Prelude.{nat_lt}
-use Rattle.fabric.specs.Shared.{machine_of, IsMessageStage}
 use Rattle.fabric.proofs.Tables.{Pushed, pushed, not-pushed, same-read}
 use Rattle.fabric.proofs.plain.PlainFabric.push.Goals as goal
 
