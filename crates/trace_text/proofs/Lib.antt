@@ -2,6 +2,6 @@ mod Cuts
 mod Feeds
 mod Files
 mod LineEnds
-mod Lines
+pub mod Lines
 mod Numerals
 mod Places

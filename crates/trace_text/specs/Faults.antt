@@ -8,10 +8,14 @@ abbrev pub ◌>>=◌ : {A B : Type 0} → Result A ReplayFault → (A → Result
 (Ok x) >>= f = f x
 (Err e) >>= f = Err e
 
--- The result is that, but that memory may run out.
+-- The fault is the due one, but that memory may run out.
+abbrev pub GivesFault : {B : Type 0} → ReplayFault → Result B ReplayFault → Type 0
+GivesFault NoMemory due = Unit {0}
+GivesFault (BadLine number) due = due ≡ Err (BadLine number)
+GivesFault (NotEnabled number guard) due = due ≡ Err (NotEnabled number guard)
+GivesFault NotFinished due = due ≡ Err NotFinished
+
+-- The result is the due one, but that memory may run out.
 abbrev pub Gives : {A B : Type 0} → (A → B) → Result A ReplayFault → Result B ReplayFault → Type 0
 Gives seen (Ok a) due = due ≡ Ok (seen a)
-Gives seen (Err NoMemory) due = Unit {0}
-Gives seen (Err (BadLine number)) due = due ≡ Err (BadLine number)
-Gives seen (Err (NotEnabled number guard)) due = due ≡ Err (NotEnabled number guard)
-Gives seen (Err NotFinished) due = due ≡ Err NotFinished
+Gives seen (Err why) due = GivesFault why due

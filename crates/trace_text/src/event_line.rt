@@ -108,7 +108,8 @@ fn event_of(line: &[u8]) -> Option<Event>
 
 /// The event whose line this is, without a line feed. None exactly where it is no event's line.
 pub fn read_event(line: &[u8]) -> Option<Event>
-    ensures { (event : _) → (result ≡ Some event) ↔ (IsEvent event × (line.now ≡ event_line event)) }
+    ensures exact { (event : _) → (result ≡ Some event) ↔ (IsEvent event × (line.now ≡ event_line event)) }
+    ensures said { result ≡ event_of line.now }
 {
     event_of(line)
 }
