@@ -65,9 +65,6 @@ const MOST_BEFORE: u64 = 100_000_000_000_000_000;
 fn plain(cell: &[u8]) -> Option<i64>
     ensures { IfSome result (λ number. Ok number ≡ int_cell cell.now) }
 {
-    if cell.is_empty() {
-        return None;
-    }
     let mut number: u64 = 0;
     for byte in cell {
         if !byte.is_ascii_digit() || number > MOST_BEFORE {
@@ -75,7 +72,11 @@ fn plain(cell: &[u8]) -> Option<i64>
         }
         number = number * 10 + u64::from(*byte - b'0');
     }
-    Some(number as i64)
+    if !cell.is_empty() {
+        Some(number as i64)
+    } else {
+        None
+    }
 }
 
 // The number of a cell, where it holds one that i64 has.
