@@ -1,4 +1,4 @@
-// The lines of refusals, those among them that the program doesn't give yet.
+//! The lines of refusals, those among them that the program doesn't give yet.
 use adfs_base::NoMemory;
 use result_collect::{Refusal, put_refusal};
 use std::alloc::Global;

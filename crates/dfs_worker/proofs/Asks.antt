@@ -32,19 +32,22 @@ use Rattle.dfs_worker.proofs.Places.{open-facts, slot-within, total-set_or}
 use Rattle.dfs_worker.proofs.Roots.{advanced-roots}
 
 -- ---- one try
-pub did-step : {F : Type 0} (agrees : F → ℕ → Holding → Type 0) (done : F → ℕ → Call → Given → F → Type 0) (excused : F → ℕ → Call → F → Type 0) (shape : F → Extents) (roots : F → ℕ → ℕ) (tree : Tree)
+pub did-step : {F : Type 0} (agrees : F → ℕ → Holding → Type 0) (done : F → ℕ → Call → Given → F → Type 0) (excused : F → ℕ → Call → F → Type 0) (shape : F → Extents) (roots : F → ℕ → ℕ)
+    (tree : Tree)
     (v v' : State) (f f' : F) (e made : Event) (given : Given) → made ≡ e → own_guard e v ≡ None → v' ≡ own_part tree e given v → Made done f v.number (call_of e v) given f' →
     Fits agrees shape roots tree v' f' → Tried agrees done excused shape roots tree v f (Step e ∷ []) (Did made) v' f'
 did-step agrees done excused shape roots tree v v' f f' e made given same own part shared fits =
     record { answered = inl (record { same = same; enabled = own; given = given; own = part; shared = shared }); fits = fits }
 
-pub missed-step : {F : Type 0} (agrees : F → ℕ → Holding → Type 0) (done : F → ℕ → Call → Given → F → Type 0) (excused : F → ℕ → Call → F → Type 0) (shape : F → Extents) (roots : F → ℕ → ℕ) (tree : Tree)
+pub missed-step : {F : Type 0} (agrees : F → ℕ → Holding → Type 0) (done : F → ℕ → Call → Given → F → Type 0) (excused : F → ℕ → Call → F → Type 0) (shape : F → Extents) (roots : F → ℕ → ℕ)
+    (tree : Tree)
     (v v' : State) (f f' : F) (e : Event) → own_guard e v ≡ None → v' ≡ left_by e v → MissedCall excused f v.number (call_of e v) f' →
     Fits agrees shape roots tree v' f' → Tried agrees done excused shape roots tree v f (Step e ∷ []) Idle v' f'
 missed-step agrees done excused shape roots tree v v' f f' e own left missed fits =
     record { answered = inr (v', (f', (inr (own, left, missed), (refl, refl, refl)))); fits = fits }
 
-pub barred-step : {F : Type 0} (agrees : F → ℕ → Holding → Type 0) (done : F → ℕ → Call → Given → F → Type 0) (excused : F → ℕ → Call → F → Type 0) (shape : F → Extents) (roots : F → ℕ → ℕ) (tree : Tree)
+pub barred-step : {F : Type 0} (agrees : F → ℕ → Holding → Type 0) (done : F → ℕ → Call → Given → F → Type 0) (excused : F → ℕ → Call → F → Type 0) (shape : F → Extents) (roots : F → ℕ → ℕ)
+    (tree : Tree)
     (v : State) (f : F) (e : Event) → (own_guard e v ≡ None → ⊥) → Fits agrees shape roots tree v f → Tried agrees done excused shape roots tree v f (Step e ∷ []) Idle v f
 barred-step agrees done excused shape roots tree v f e barred fits =
     record { answered = inr (v, (f, (inl (barred, refl, refl), (refl, refl, refl)))); fits = fits }
@@ -189,7 +192,8 @@ fits-alone agrees shape roots tree v v' f h worker self enrolled marks within co
     (λ i j. omega arith) (λ i j. omega arith) (λ i. omega arith) h.holds)
     h.agreed
 
-pub advance-tried : {F : Type 0} (agrees : F → ℕ → Holding → Type 0) (done : F → ℕ → Call → Given → F → Type 0) (excused : F → ℕ → Call → F → Type 0) (shape : F → Extents) (roots : F → ℕ → ℕ) (tree : Tree)
+pub advance-tried : {F : Type 0} (agrees : F → ℕ → Holding → Type 0) (done : F → ℕ → Call → Given → F → Type 0) (excused : F → ℕ → Call → F → Type 0) (shape : F → Extents)
+    (roots : F → ℕ → ℕ) (tree : Tree)
     (v v' : State) (f : F) (w : ℕ) → Fits agrees shape roots tree v f → own_guard (event.Advance 0) v ≡ None → w ≡ v.number → v' ≡ advanced tree v →
     Tried agrees done excused shape roots tree v f (Step (event.Advance v.number) ∷ []) (Did (event.Advance w)) v' f
 advance-tried agrees done excused shape roots tree v v' f w h own same is =

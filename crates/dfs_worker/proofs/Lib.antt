@@ -11,4 +11,6 @@ pub mod Holdings
 pub mod Asks
 pub mod Steps
 pub mod Starting
+pub mod Looking
 pub mod Sweeps
+pub mod Rounds

@@ -51,7 +51,8 @@ pub chunk-facts : {F : Type 0} (agrees : F → ℕ → Holding → Type 0) (shap
 chunk-facts agrees shape roots tree v f w first end h same given =
     chunk-within agrees shape roots tree v f first end h (subst (λ n. (first < end) × (end ≤ roots f (machine_in (shape f) n))) same given)
 
-pub claim-tried : {F : Type 0} (agrees : F → ℕ → Holding → Type 0) (done : F → ℕ → Call → Given → F → Type 0) (excused : F → ℕ → Call → F → Type 0) (shape : F → Extents) (roots : F → ℕ → ℕ) (tree : Tree)
+pub claim-tried : {F : Type 0} (agrees : F → ℕ → Holding → Type 0) (done : F → ℕ → Call → Given → F → Type 0) (excused : F → ℕ → Call → F → Type 0) (shape : F → Extents) (roots : F → ℕ → ℕ)
+    (tree : Tree)
     (v v' : State) (f f' : F) (w first end : ℕ) → Fits agrees shape roots tree v f → own_guard (event.Claim 0) v ≡ None → w ≡ v.number →
     Ready agrees done shape roots f w ToClaim (Roots first end) f' → v' ≡ claimed tree first end v →
     Tried agrees done excused shape roots tree v f (Start ∷ []) (Did (event.Claim w)) v' f'
@@ -71,7 +72,8 @@ claim-tried agrees done excused shape roots tree v v' f f' w first end h own sam
     }
 
 -- the end was seen: the worker may retire
-pub may-retire : {F : Type 0} (agrees : F → ℕ → Holding → Type 0) (done : F → ℕ → Call → Given → F → Type 0) (excused : F → ℕ → Call → F → Type 0) (shape : F → Extents) (roots : F → ℕ → ℕ) (tree : Tree)
+pub may-retire : {F : Type 0} (agrees : F → ℕ → Holding → Type 0) (done : F → ℕ → Call → Given → F → Type 0) (excused : F → ℕ → Call → F → Type 0) (shape : F → Extents) (roots : F → ℕ → ℕ)
+    (tree : Tree)
     (v : State) (f g : F) (w : ℕ) → Fits agrees shape roots tree v f → own_guard (event.Claim 0) v ≡ None → w ≡ v.number →
     Missed agrees excused shape roots at_end f w ToClaim g → MayCall agrees shape g w ToRetire
 may-retire agrees done excused shape roots tree v f g w h own same missed =
@@ -80,7 +82,8 @@ may-retire agrees done excused shape roots tree v f g w h own same missed =
     let y = at_end h.holding in
     subst (λ n. MayCall agrees shape g n ToRetire) (sym same) (y, (m.holds h.holding y h.agreed (SameHolding-refl y), (h.holds.enrolled ∙ at.enrolled, refl)))
 
-pub retire-tried : {F : Type 0} (agrees : F → ℕ → Holding → Type 0) (done : F → ℕ → Call → Given → F → Type 0) (excused : F → ℕ → Call → F → Type 0) (shape : F → Extents) (roots : F → ℕ → ℕ) (tree : Tree)
+pub retire-tried : {F : Type 0} (agrees : F → ℕ → Holding → Type 0) (done : F → ℕ → Call → Given → F → Type 0) (excused : F → ℕ → Call → F → Type 0) (shape : F → Extents)
+    (roots : F → ℕ → ℕ) (tree : Tree)
     (v v' : State) (f g f' : F) (w : ℕ) → Fits agrees shape roots tree v f → own_guard (event.Claim 0) v ≡ None → w ≡ v.number →
     Missed agrees excused shape roots at_end f w ToClaim g → Ready agrees done shape roots g w ToRetire Nothing f' → v' ≡ retired v →
     Tried agrees done excused shape roots tree v f (Start ∷ []) (Did (event.Retire w)) v' f'
@@ -102,7 +105,8 @@ retire-tried agrees done excused shape roots tree v v' f g f' w h own same misse
           (r.holds x y (m.holds h.holding x h.agreed (SameHolding-refl x)) (h.holds.enrolled ∙ at.enrolled, refl) (SameHolding-refl y)));
     }
 
-pub start-missed : {F : Type 0} (agrees : F → ℕ → Holding → Type 0) (done : F → ℕ → Call → Given → F → Type 0) (excused : F → ℕ → Call → F → Type 0) (shape : F → Extents) (roots : F → ℕ → ℕ) (tree : Tree)
+pub start-missed : {F : Type 0} (agrees : F → ℕ → Holding → Type 0) (done : F → ℕ → Call → Given → F → Type 0) (excused : F → ℕ → Call → F → Type 0) (shape : F → Extents)
+    (roots : F → ℕ → ℕ) (tree : Tree)
     (v : State) (f f' : F) (w : ℕ) → Fits agrees shape roots tree v f → own_guard (event.Claim 0) v ≡ None → w ≡ v.number →
     Missed agrees excused shape roots unlooked f w ToClaim f' × excused f w ToRetire f' → Tried agrees done excused shape roots tree v f (Start ∷ []) Idle v f'
 start-missed agrees done excused shape roots tree v f f' w h own same missed =
@@ -110,7 +114,8 @@ start-missed agrees done excused shape roots tree v f f' w h own same missed =
     let bars = subst (λ n. excused f n ToRetire f') same missed.1 in
     record { answered = inr (v, (f', ((inr (own, m.allowed, bars), refl), (refl, refl, refl)))); fits = fits-missed agrees excused shape roots tree v f f' ToClaim h m }
 
-pub start-barred : {F : Type 0} (agrees : F → ℕ → Holding → Type 0) (done : F → ℕ → Call → Given → F → Type 0) (excused : F → ℕ → Call → F → Type 0) (shape : F → Extents) (roots : F → ℕ → ℕ) (tree : Tree)
+pub start-barred : {F : Type 0} (agrees : F → ℕ → Holding → Type 0) (done : F → ℕ → Call → Given → F → Type 0) (excused : F → ℕ → Call → F → Type 0) (shape : F → Extents)
+    (roots : F → ℕ → ℕ) (tree : Tree)
     (v : State) (f : F) → Fits agrees shape roots tree v f → (own_guard (event.Claim 0) v ≡ None → ⊥) → Tried agrees done excused shape roots tree v f (Start ∷ []) Idle v f
 start-barred agrees done excused shape roots tree v f h barred = record { answered = inr (v, (f, ((inl (barred, refl), refl), (refl, refl, refl)))); fits = h }
 
@@ -152,7 +157,8 @@ restored-explicit : (v u v' : State) (frame : Frame) (message : Message) (next :
 restored-explicit v u v' frame message next at same is =
     is ∙ ap (λ (w : State). record w { hand = Emptied message.from message.stage }) same ∙ sym (restored-is v frame u.stack message next at)
 
-pub restore-tried : {F : Type 0} (agrees : F → ℕ → Holding → Type 0) (done : F → ℕ → Call → Given → F → Type 0) (excused : F → ℕ → Call → F → Type 0) (shape : F → Extents) (roots : F → ℕ → ℕ) (tree : Tree)
+pub restore-tried : {F : Type 0} (agrees : F → ℕ → Holding → Type 0) (done : F → ℕ → Call → Given → F → Type 0) (excused : F → ℕ → Call → F → Type 0) (shape : F → Extents)
+    (roots : F → ℕ → ℕ) (tree : Tree)
     (v u v' : State) (f f' : F) (w : ℕ) (frame : Frame) (message : Message) (next : ℕ) (over : Bool) (buffer : Batch) → Fits agrees shape roots tree v f → own_guard (event.Restore 0) v ≡ None →
     w ≡ v.number → v.stack ≡ frame ∷ u.stack → u ≡ record v { stack = u.stack } → frame.rest ≡ rest.Items message next over →
     buffer ≡ empty_buffer message.items.home message.items.size → Ready agrees done shape roots f w (ToRestore buffer) Nothing f' →
@@ -163,7 +169,8 @@ restore-tried agrees done excused shape roots tree v u v' f f' w frame message n
     let r = subst (λ c. Ready agrees done shape roots f v.number (ToRestore c) Nothing f') empty (subst (λ n. Ready agrees done shape roots f n (ToRestore buffer) Nothing f') same ready) in
     let call : call_of (event.Restore v.number) v ≡ Some (ToRestore b) = rw (st, rest_is) refl in
     let s = same-of v (restored v) _ (restored-is v frame u.stack message next at) (record { self = record { number = refl; machine = refl; shape = refl }; enrolled = refl; marks = refl }) in
-    did-step agrees done excused shape roots tree v v' f f' (event.Restore v.number) (event.Restore w) Nothing (ap event.Restore same) own (restored-explicit v u v' frame message next at taken is) (rw call r.made)
+    did-step agrees done excused shape roots tree v v' f f' (event.Restore v.number) (event.Restore w) Nothing (ap event.Restore same) own
+    (restored-explicit v u v' frame message next at taken is) (rw call r.made)
     (subst (λ t. Fits agrees shape roots tree t f') (sym (restored-explicit v u v' frame message next at taken is))
     (fits-after agrees done shape roots tree v (restored v) f f' (ToRestore b) Nothing h r (may-restore v h.holding frame u.stack message next h.worker h.holds at)
     (restored-keeps v h.worker own) s.self (restored-roots (tree.roots v.machine) v h.within)
@@ -211,8 +218,10 @@ emptied-left : (v : State) (frame : Frame) (frames : List Frame) (message : Mess
     record v { stack = record frame { rest = rest.Items (record message { items = empty_buffer message.items.home message.items.size }) next true } ∷ frames } ≡ left_by (event.Restore v.number) v
 emptied-left v frame frames message next at = rw (at.stack, at.rest) refl
 
-pub restore-missed : {F : Type 0} (agrees : F → ℕ → Holding → Type 0) (done : F → ℕ → Call → Given → F → Type 0) (excused : F → ℕ → Call → F → Type 0) (shape : F → Extents) (roots : F → ℕ → ℕ) (tree : Tree)
-    (v u v' : State) (f f' : F) (w : ℕ) (frame put : Frame) (message : Message) (next : ℕ) (over : Bool) (buffer back : Batch) → Fits agrees shape roots tree v f → own_guard (event.Restore 0) v ≡ None →
+pub restore-missed : {F : Type 0} (agrees : F → ℕ → Holding → Type 0) (done : F → ℕ → Call → Given → F → Type 0) (excused : F → ℕ → Call → F → Type 0) (shape : F → Extents)
+    (roots : F → ℕ → ℕ) (tree : Tree)
+    (v u v' : State) (f f' : F) (w : ℕ) (frame put : Frame) (message : Message) (next : ℕ) (over : Bool) (buffer back : Batch) → Fits agrees shape roots tree v f →
+    own_guard (event.Restore 0) v ≡ None →
     w ≡ v.number → v.stack ≡ frame ∷ u.stack → u ≡ record v { stack = u.stack } → frame.rest ≡ rest.Items message next over →
     buffer ≡ empty_buffer message.items.home message.items.size → (back ≡ buffer) × Missed agrees excused shape roots unlooked f w (ToRestore buffer) f' →
     put ≡ record frame { rest = rest.Items (record message { items = back }) next over } →

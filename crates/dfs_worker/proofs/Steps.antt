@@ -61,7 +61,7 @@ message-given agrees shape roots tree v f stage message h given =
     (subst (λ s. IsMessageOf s message) h.same_shape given.0, given.1 ∙ ap (λ s. machine_in s v.number) h.same_shape ∙ sym h.number, given.2)
 
 -- ---- post
-posted-fits : {F : Type 0} (agrees : F → ℕ → Holding → Type 0) (done : F → ℕ → Call → Given → F → Type 0) (shape : F → Extents) (roots : F → ℕ → ℕ) (tree : Tree)
+pub posted-fits : {F : Type 0} (agrees : F → ℕ → Holding → Type 0) (done : F → ℕ → Call → Given → F → Type 0) (shape : F → Extents) (roots : F → ℕ → ℕ) (tree : Tree)
     (v : State) (f f' : F) (stage to : ℕ) → Fits agrees shape roots tree v f → own_guard (event.Post 0 stage to) v ≡ None →
     Ready agrees done shape roots f v.number (ToPost stage to) Nothing f' → Fits agrees shape roots tree (posted stage to v) f'
 posted-fits agrees done shape roots tree v f f' stage to h own r =
@@ -82,7 +82,8 @@ posted-fits agrees done shape roots tree v f f' stage to h own r =
     (λ i j. let g = word i j in omega arith) (λ i j. omega arith) (λ i. omega arith) h.holds)
 
 -- ---- without a call
-pub descend-tried : {F : Type 0} (agrees : F → ℕ → Holding → Type 0) (done : F → ℕ → Call → Given → F → Type 0) (excused : F → ℕ → Call → F → Type 0) (shape : F → Extents) (roots : F → ℕ → ℕ) (tree : Tree)
+pub descend-tried : {F : Type 0} (agrees : F → ℕ → Holding → Type 0) (done : F → ℕ → Call → Given → F → Type 0) (excused : F → ℕ → Call → F → Type 0) (shape : F → Extents)
+    (roots : F → ℕ → ℕ) (tree : Tree)
     (v v' : State) (f : F) (w : ℕ) → Fits agrees shape roots tree v f → own_guard (event.Descend 0) v ≡ None → w ≡ v.number → v' ≡ descended v →
     Tried agrees done excused shape roots tree v f (Step (event.Descend v.number) ∷ []) (Did (event.Descend w)) v' f
 descend-tried agrees done excused shape roots tree v v' f w h own same is =
@@ -93,7 +94,8 @@ descend-tried agrees done excused shape roots tree v v' f w h own same is =
     (fits-alone agrees shape roots tree v (descended v) f h (descended-keeps v h.worker own) s.self s.enrolled s.marks
     (descended-roots (tree.roots v.machine) v h.within) (λ census. descended-count census v own)))
 
-pub append-tried : {F : Type 0} (agrees : F → ℕ → Holding → Type 0) (done : F → ℕ → Call → Given → F → Type 0) (excused : F → ℕ → Call → F → Type 0) (shape : F → Extents) (roots : F → ℕ → ℕ) (tree : Tree)
+pub append-tried : {F : Type 0} (agrees : F → ℕ → Holding → Type 0) (done : F → ℕ → Call → Given → F → Type 0) (excused : F → ℕ → Call → F → Type 0) (shape : F → Extents)
+    (roots : F → ℕ → ℕ) (tree : Tree)
     (v v' : State) (f : F) (w : ℕ) → Fits agrees shape roots tree v f → own_guard (event.Append 0) v ≡ None → w ≡ v.number → v' ≡ appended v →
     Tried agrees done excused shape roots tree v f (Step (event.Append v.number) ∷ []) (Did (event.Append w)) v' f
 append-tried agrees done excused shape roots tree v v' f w h own same is =
@@ -105,7 +107,8 @@ append-tried agrees done excused shape roots tree v v' f w h own same is =
     (appended-roots (tree.roots v.machine) v h.within) (λ census. appended-count census v h.worker own)))
 
 -- ---- with a call
-pub charge-tried : {F : Type 0} (agrees : F → ℕ → Holding → Type 0) (done : F → ℕ → Call → Given → F → Type 0) (excused : F → ℕ → Call → F → Type 0) (shape : F → Extents) (roots : F → ℕ → ℕ) (tree : Tree)
+pub charge-tried : {F : Type 0} (agrees : F → ℕ → Holding → Type 0) (done : F → ℕ → Call → Given → F → Type 0) (excused : F → ℕ → Call → F → Type 0) (shape : F → Extents)
+    (roots : F → ℕ → ℕ) (tree : Tree)
     (v v' : State) (f f' : F) (w stage to : ℕ) → Fits agrees shape roots tree v f → own_guard (event.Charge 0) v ≡ None → w ≡ v.number → waiting v.stack ≡ Some (stage, to) →
     Ready agrees done shape roots f w (ToCharge stage to) Nothing f' → v' ≡ charged v →
     Tried agrees done excused shape roots tree v f (Step (event.Charge v.number) ∷ []) (Did (event.Charge w)) v' f'
@@ -120,7 +123,8 @@ charge-tried agrees done excused shape roots tree v v' f f' w stage to h own sam
     (λ census. let e = charged-count census v (stage, to) own waits in omega arith) (h.holds.enrolled ∙ sym s.enrolled) s.marks refl (λ _. refl)
     (λ i j. omega arith) (λ i j. omega arith) (λ i. omega arith) h.holds)))
 
-pub fetch-tried : {F : Type 0} (agrees : F → ℕ → Holding → Type 0) (done : F → ℕ → Call → Given → F → Type 0) (excused : F → ℕ → Call → F → Type 0) (shape : F → Extents) (roots : F → ℕ → ℕ) (tree : Tree)
+pub fetch-tried : {F : Type 0} (agrees : F → ℕ → Holding → Type 0) (done : F → ℕ → Call → Given → F → Type 0) (excused : F → ℕ → Call → F → Type 0) (shape : F → Extents) (roots : F → ℕ → ℕ)
+    (tree : Tree)
     (v v' : State) (f f' : F) (w : ℕ) (buffer : Batch) → Fits agrees shape roots tree v f → own_guard (event.Fetch 0) v ≡ None → w ≡ v.number →
     Ready agrees done shape roots f w ToFetch (Taken buffer) f' → v' ≡ fetched buffer v →
     Tried agrees done excused shape roots tree v f (Step (event.Fetch v.number) ∷ []) (Did (event.Fetch w)) v' f'
@@ -128,25 +132,26 @@ fetch-tried agrees done excused shape roots tree v v' f f' w buffer h own same r
     let r = subst (λ n. Ready agrees done shape roots f n ToFetch (Taken buffer) f') same ready in
     let hand = charged-facts v own in
     let at = charges-facts v hand.0 hand.1.0 hand.1.1 (rw hand.1.1 at h.worker.hand).0 in
-    let s = same-of v (fetched buffer v) _ (fetched-is v buffer hand.0 hand.1.0 at.0 at.1.0 at.1.1.0 at.1.1.1) (record { self = record { number = refl; machine = refl; shape = refl }; enrolled = refl; marks = refl }) in
+    let s = same-of v (fetched buffer v) _ (fetched-is v buffer hand.0 hand.1.0 at.0 at.1.0 at.1.1.0 at.1.1.1)
+    (record { self = record { number = refl; machine = refl; shape = refl }; enrolled = refl; marks = refl }) in
     did-step agrees done excused shape roots tree v v' f f' (event.Fetch v.number) (event.Fetch w) (Taken buffer) (ap event.Fetch same) own is r.made
     (subst (λ u. Fits agrees shape roots tree u f') (sym is)
     (fits-after agrees done shape roots tree v (fetched buffer v) f f' ToFetch (Taken buffer) h r tt
     (fetched-keeps v buffer h.worker own (empty-given agrees shape roots tree v f buffer h r.something)) s.self (fetched-roots (tree.roots v.machine) v buffer h.within)
-    (holds-by v (fetched buffer v) h.holding (holds_after ToFetch (Taken buffer) h.holding) (λ census. census.charged v.machine hand.0 hand.1.0) (λ census. census.opened v.machine hand.0 hand.1.0 buffer.home)
+    (holds-by v (fetched buffer v) h.holding (holds_after ToFetch (Taken buffer) h.holding) (λ census. census.charged v.machine hand.0 hand.1.0)
+    (λ census. census.opened v.machine hand.0 hand.1.0 buffer.home)
     (λ census. fetched-count census v buffer hand.0 hand.1.0 h.worker hand.1.1) (h.holds.enrolled ∙ sym s.enrolled) s.marks refl (λ _. refl)
     (λ i j. omega arith) (λ i j. omega arith) (λ i. omega arith) h.holds)))
 
-pub post-tried : {F : Type 0} (agrees : F → ℕ → Holding → Type 0) (done : F → ℕ → Call → Given → F → Type 0) (excused : F → ℕ → Call → F → Type 0) (shape : F → Extents) (roots : F → ℕ → ℕ) (tree : Tree)
-    (v v' : State) (f f' : F) (w stage to : ℕ) → Fits agrees shape roots tree v f → own_guard (event.Post 0 stage to) v ≡ None → w ≡ v.number →
-    Ready agrees done shape roots f w (ToPost stage to) Nothing f' → v' ≡ posted stage to v →
-    Tried agrees done excused shape roots tree v f (Step (event.Post v.number stage to) ∷ []) (Did (event.Post w stage to)) v' f'
-post-tried agrees done excused shape roots tree v v' f f' w stage to h own same ready is =
-    let r = subst (λ n. Ready agrees done shape roots f n (ToPost stage to) Nothing f') same ready in
-    did-step agrees done excused shape roots tree v v' f f' (event.Post v.number stage to) (event.Post w stage to) Nothing (ap (λ n. event.Post n stage to) same) own is r.made
-    (subst (λ u. Fits agrees shape roots tree u f') (sym is) (posted-fits agrees done shape roots tree v f f' stage to h own r))
+pub post-tried : {F : Type 0} (agrees : F → ℕ → Holding → Type 0) (done : F → ℕ → Call → Given → F → Type 0) (excused : F → ℕ → Call → F → Type 0) (shape : F → Extents) (roots : F → ℕ → ℕ)
+    (tree : Tree)
+    (v v' : State) (f f' : F) (stage to : ℕ) (made : Event) → own_guard (event.Post 0 stage to) v ≡ None → made ≡ event.Post v.number stage to → v' ≡ posted stage to v →
+    done f v.number (ToPost stage to) Nothing f' → Fits agrees shape roots tree v' f' → Tried agrees done excused shape roots tree v f (Step (event.Post v.number stage to) ∷ []) (Did made) v' f'
+post-tried agrees done excused shape roots tree v v' f f' stage to made own same is shared fits =
+    did-step agrees done excused shape roots tree v v' f f' (event.Post v.number stage to) made Nothing same own is shared fits
 
-pub push-tried : {F : Type 0} (agrees : F → ℕ → Holding → Type 0) (done : F → ℕ → Call → Given → F → Type 0) (excused : F → ℕ → Call → F → Type 0) (shape : F → Extents) (roots : F → ℕ → ℕ) (tree : Tree)
+pub push-tried : {F : Type 0} (agrees : F → ℕ → Holding → Type 0) (done : F → ℕ → Call → Given → F → Type 0) (excused : F → ℕ → Call → F → Type 0) (shape : F → Extents) (roots : F → ℕ → ℕ)
+    (tree : Tree)
     (v v' : State) (f f' : F) (w : ℕ) (message : Message) → Fits agrees shape roots tree v f → v.hand ≡ Posted message → w ≡ v.number →
     Ready agrees done shape roots f w (ToPush message) Nothing f' → v' ≡ freed v →
     Tried agrees done excused shape roots tree v f (Step (event.Push v.number) ∷ []) (Did (event.Push w)) v' f'
@@ -162,7 +167,8 @@ push-tried agrees done excused shape roots tree v v' f f' w message h hand same 
     (λ census. let e = freed-count census v in let g = gone census in omega arith) h.holds.enrolled refl refl (λ _. refl)
     (λ i j. omega arith) (λ i j. omega arith) (λ i. omega arith) h.holds)))
 
-pub pop-tried : {F : Type 0} (agrees : F → ℕ → Holding → Type 0) (done : F → ℕ → Call → Given → F → Type 0) (excused : F → ℕ → Call → F → Type 0) (shape : F → Extents) (roots : F → ℕ → ℕ) (tree : Tree)
+pub pop-tried : {F : Type 0} (agrees : F → ℕ → Holding → Type 0) (done : F → ℕ → Call → Given → F → Type 0) (excused : F → ℕ → Call → F → Type 0) (shape : F → Extents) (roots : F → ℕ → ℕ)
+    (tree : Tree)
     (v v' : State) (f f' : F) (w stage : ℕ) (message : Message) → Fits agrees shape roots tree v f → own_guard (event.Pop 0 stage) v ≡ None → 0 < stage → stage < v.shape.stages → w ≡ v.number →
     Ready agrees done shape roots f w (ToPop stage) (Came message) f' → v' ≡ popped message v →
     Tried agrees done excused shape roots tree v f (Step (event.Pop v.number stage) ∷ []) (Did (event.Pop w stage)) v' f'
@@ -178,7 +184,8 @@ pop-tried agrees done excused shape roots tree v v' f f' w stage message h own s
     (λ census. let e = popped-count census v message free in omega arith) h.holds.enrolled refl refl (λ _. refl)
     (λ i j. omega arith) (λ i j. omega arith) (λ i. omega arith) h.holds)))
 
-pub pick-tried : {F : Type 0} (agrees : F → ℕ → Holding → Type 0) (done : F → ℕ → Call → Given → F → Type 0) (excused : F → ℕ → Call → F → Type 0) (shape : F → Extents) (roots : F → ℕ → ℕ) (tree : Tree)
+pub pick-tried : {F : Type 0} (agrees : F → ℕ → Holding → Type 0) (done : F → ℕ → Call → Given → F → Type 0) (excused : F → ℕ → Call → F → Type 0) (shape : F → Extents) (roots : F → ℕ → ℕ)
+    (tree : Tree)
     (v v' : State) (f f' : F) (w : ℕ) (message : Message) → Fits agrees shape roots tree v f → v.hand ≡ Popped message → w ≡ v.number →
     Ready agrees done shape roots f w (ToPick message.from message.stage) Nothing f' → v' ≡ picked v →
     Tried agrees done excused shape roots tree v f (Step (event.Pick v.number) ∷ []) (Did (event.Pick w)) v' f'
@@ -194,7 +201,8 @@ pick-tried agrees done excused shape roots tree v v' f f' w message h hand same 
     (λ census. picked-count census v message h.worker hand) (h.holds.enrolled ∙ sym s.enrolled) s.marks refl (λ _. refl)
     (λ i j. omega arith) (λ i j. omega arith) (λ i. omega arith) h.holds)))
 
-pub discharge-tried : {F : Type 0} (agrees : F → ℕ → Holding → Type 0) (done : F → ℕ → Call → Given → F → Type 0) (excused : F → ℕ → Call → F → Type 0) (shape : F → Extents) (roots : F → ℕ → ℕ) (tree : Tree)
+pub discharge-tried : {F : Type 0} (agrees : F → ℕ → Holding → Type 0) (done : F → ℕ → Call → Given → F → Type 0) (excused : F → ℕ → Call → F → Type 0) (shape : F → Extents)
+    (roots : F → ℕ → ℕ) (tree : Tree)
     (v v' : State) (f f' : F) (w from stage : ℕ) → Fits agrees shape roots tree v f → v.hand ≡ Emptied from stage → w ≡ v.number →
     Ready agrees done shape roots f w (ToDischarge from stage) Nothing f' → v' ≡ freed v →
     Tried agrees done excused shape roots tree v f (Step (event.Discharge v.number) ∷ []) (Did (event.Discharge w)) v' f'
@@ -211,7 +219,8 @@ discharge-tried agrees done excused shape roots tree v v' f f' w from stage h ha
     (λ i j. omega arith) (λ i j. omega arith) (λ i. omega arith) h.holds)))
 
 -- ---- when a call was not ready
-pub missed-tried : {F : Type 0} (agrees : F → ℕ → Holding → Type 0) (done : F → ℕ → Call → Given → F → Type 0) (excused : F → ℕ → Call → F → Type 0) (shape : F → Extents) (roots : F → ℕ → ℕ) (tree : Tree)
+pub missed-tried : {F : Type 0} (agrees : F → ℕ → Holding → Type 0) (done : F → ℕ → Call → Given → F → Type 0) (excused : F → ℕ → Call → F → Type 0) (shape : F → Extents)
+    (roots : F → ℕ → ℕ) (tree : Tree)
     (v v' : State) (f f' : F) (w : ℕ) (e : Event) (call : Call) → Fits agrees shape roots tree v f → own_guard e v ≡ None → w ≡ v.number → call_of e v ≡ Some call → left_by e v ≡ v →
     Missed agrees excused shape roots unlooked f w call f' → v' ≡ v → Tried agrees done excused shape roots tree v f (Step e ∷ []) Idle v' f'
 missed-tried agrees done excused shape roots tree v v' f f' w e call h own same calls left missed is =
@@ -219,7 +228,8 @@ missed-tried agrees done excused shape roots tree v v' f f' w e call h own same 
     missed-step agrees done excused shape roots tree v v' f f' e own (is ∙ sym left) (rw calls m.allowed)
     (subst (λ u. Fits agrees shape roots tree u f') (sym is) (fits-missed agrees excused shape roots tree v f f' call h m))
 
-pub no-memory : {F : Type 0} (agrees : F → ℕ → Holding → Type 0) (done : F → ℕ → Call → Given → F → Type 0) (excused : F → ℕ → Call → F → Type 0) (shape : F → Extents) (roots : F → ℕ → ℕ) (tree : Tree)
+pub no-memory : {F : Type 0} (agrees : F → ℕ → Holding → Type 0) (done : F → ℕ → Call → Given → F → Type 0) (excused : F → ℕ → Call → F → Type 0) (shape : F → Extents) (roots : F → ℕ → ℕ)
+    (tree : Tree)
     (v v' : State) (f : F) → Fits agrees shape roots tree v f → own_guard (event.Advance 0) v ≡ None → AddsRow tree v.machine v.stack → v' ≡ v →
     Tried agrees done excused shape roots tree v f (Step (event.Advance v.number) ∷ []) NoMemory v' f
 no-memory agrees done excused shape roots tree v v' f h own adds is =
@@ -241,9 +251,11 @@ pub hand-back : (v u v' : State) (message back : Message) → v.hand ≡ Posted 
 hand-back v u v' message back hand freed same is =
     is ∙ ap (λ (w : State). record w { hand = Posted back }) freed ∙ ap (λ m. record v { hand = Posted m }) same ∙ ap (λ h. record v { hand = h }) (sym hand)
 
-pub push-missed : {F : Type 0} (agrees : F → ℕ → Holding → Type 0) (done : F → ℕ → Call → Given → F → Type 0) (excused : F → ℕ → Call → F → Type 0) (shape : F → Extents) (roots : F → ℕ → ℕ) (tree : Tree)
+pub push-missed : {F : Type 0} (agrees : F → ℕ → Holding → Type 0) (done : F → ℕ → Call → Given → F → Type 0) (excused : F → ℕ → Call → F → Type 0) (shape : F → Extents) (roots : F → ℕ → ℕ)
+    (tree : Tree)
     (v u v' : State) (f f' : F) (w : ℕ) (message back : Message) → Fits agrees shape roots tree v f → v.hand ≡ Posted message → w ≡ v.number → u ≡ record v { hand = Free } →
     (back ≡ message) × Missed agrees excused shape roots unlooked f w (ToPush message) f' → v' ≡ record u { hand = Posted back } →
     Tried agrees done excused shape roots tree v f (Step (event.Push v.number) ∷ []) Idle v' f'
 push-missed agrees done excused shape roots tree v u v' f f' w message back h hand same freed on is =
-    missed-tried agrees done excused shape roots tree v v' f f' w (event.Push v.number) (ToPush message) h (rw hand refl) same (ap push_call hand) refl on.1 (hand-back v u v' message back hand freed on.0 is)
+    missed-tried agrees done excused shape roots tree v v' f f' w (event.Push v.number) (ToPush message) h (rw hand refl) same (ap push_call hand) refl on.1
+    (hand-back v u v' message back hand freed on.0 is)

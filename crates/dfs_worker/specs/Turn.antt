@@ -161,8 +161,8 @@ tries_of w stages stack hand attempt.PostOthers = PostOther ∷ []
 tries_of w stages stack hand attempt.Pop = pops_from w (lowest_pop stack) (stages - lowest_pop stack)
 tries_of w stages stack hand attempt.Claim = Start ∷ []
 tries_of w stages stack hand attempt.Retire = []
-tries_of w stages stack hand attempt.Mark = []
-tries_of w stages stack hand attempt.Close = []
+tries_of w stages stack hand attempt.Mark = NextMark ∷ []
+tries_of w stages stack hand attempt.Close = NextClose ∷ []
 
 abbrev pub all_tries : ℕ → ℕ → List Frame → Hand → List Attempt → List Try
 all_tries w stages stack hand [] = []
@@ -386,6 +386,12 @@ abbrev pub idle_after : Turn → ℕ → ℕ
 idle_after (Did made) idle = 0
 idle_after Idle idle = min (idle + 1) (2 ^ 32 - 1)
 idle_after NoMemory idle = idle
+
+-- What a turn does: its tries, and the count of idle turns. `left` is the worker as the tries left it.
+pub record TookTurn {F : Type 0} (done : F → ℕ → Call → Given → F → Type 0) (excused : F → ℕ → Call → F → Type 0) (tree : Tree) (v : State) (f : F) (answer : ℕ) (turn : Turn) (v' : State) (f' : F) : Type 0 where
+  pub left : State
+  pub made : IsTurn done excused tree v f (turn_tries v answer) turn left f'
+  pub counted : v' ≡ record left { idle = idle_after turn v.idle }
 
 -- ---- what a turn asks for
 abbrev pub own_credits : ℕ → ℕ → Census

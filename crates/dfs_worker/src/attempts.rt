@@ -1,6 +1,8 @@
 //! The attempts of a turn, one function for each.
 ghost use Rattle.std.specs.Prelude.{◌≡◌, ◌<◌, ◌≤◌, [], ◌∷◌, true, None};
 ghost use Rattle.dfs_worker.specs.Guards.{own_guard, is_charged, is_posted, is_popped, is_emptied};
+ghost use Rattle.dfs_worker.specs.Own.{posted};
+ghost use Rattle.fabric.specs.Account.{ToPost, Nothing};
 ghost use Rattle.dfs_worker.specs.Turn.{Fits, Tried, Step, PostOther, Start, NextMark, NextClose, IsMoved, hand_step};
 
 use crate::event::Event;
@@ -152,22 +154,40 @@ pub fn append<F: Fabric, X: Expand>(worker: &mut Worker, fabric: &F, _x: &X) -> 
 pub fn post<F: Fabric, X: Expand>(
     worker: &mut Worker,
     fabric: &mut F,
-    _x: &X,
+    x: &X,
     stage: u32,
     to: u32,
 ) -> Turn
-    requires fits { Fits F.agrees F.shape F.roots (X.tree _x.now) worker.old fabric.old }
-    ensures tried { Tried F.agrees F.done F.excused F.shape F.roots (X.tree _x.now) worker.old fabric.old (Step (Event.Post worker.old.number stage to) ∷ []) result worker.new fabric.new }
+    requires fits { Fits F.agrees F.shape F.roots (X.tree x.now) worker.old fabric.old }
+    ensures tried { Tried F.agrees F.done F.excused F.shape F.roots (X.tree x.now) worker.old fabric.old (Step (Event.Post worker.old.number stage to) ∷ []) result worker.new fabric.new }
     ensures kept { result ≡ Turn.Idle → worker.new ≡ worker.old }
 {
     let w = worker.number();
-    let event = Event::Post { w, stage, to };
-    if worker.guard(&event).is_some() {
-        return Turn::Idle;
+    match worker.guard(&Event::Post { w, stage, to }) {
+        None => Turn::Did(post_open(worker, fabric, x, stage, to)),
+        Some(_) => Turn::Idle,
     }
+}
+
+/// The message that is open there comes into the hand, once it is counted as on its way.
+pub fn post_open<F: Fabric, X: Expand>(
+    worker: &mut Worker,
+    fabric: &mut F,
+    _x: &X,
+    stage: u32,
+    to: u32,
+) -> Event
+    requires fits { Fits F.agrees F.shape F.roots (X.tree _x.now) worker.old fabric.old }
+    requires enabled { own_guard (Event.Post 0 stage to) worker.old ≡ None }
+    ensures event { result ≡ Event.Post worker.old.number stage to }
+    ensures own { worker.new ≡ posted stage to worker.old }
+    ensures shared { F.done fabric.old worker.old.number (ToPost stage to) Nothing fabric.new }
+    ensures fits { Fits F.agrees F.shape F.roots (X.tree _x.now) worker.new fabric.new }
+{
+    let w = worker.number();
     fabric.post(w, stage, to);
     worker.post(stage, to);
-    Turn::Did(event)
+    Event::Post { w, stage, to }
 }
 
 /// The first message of an inbox comes into the hand.

@@ -112,7 +112,7 @@ impl Worker {
         }
     }
 
-    fn advance_guard(&self) -> Option<Guard>
+    pub(crate) fn advance_guard(&self) -> Option<Guard>
         ensures { result ≡ own_guard (Event.Advance 0) self.now }
     {
         if !self.is_free() {
@@ -197,7 +197,7 @@ impl Worker {
         }
     }
 
-    fn restore_guard(&self) -> Option<Guard>
+    pub(crate) fn restore_guard(&self) -> Option<Guard>
         ensures { result ≡ own_guard (Event.Restore 0) self.now }
     {
         if !self.is_free() {

@@ -18,19 +18,27 @@
 //! `Worker::guard` names the first guard of an event that fails on the worker alone (specs/Guards.antt). A method for
 //! each event makes the worker's own part, exactly as specs/Own.antt has it, in place. What an event does to the
 //! buffers and credits that the worker holds is one `Census`, and what it does to its rows and its work one weight.
-//! Only `new` and a row take memory.
+//!
+//! `Worker::turn` makes one step over any `Fabric`: of what its state lets it try, in the order of `bfs_budget::actions`, begun
+//! where its policy says and gone round once, the first that is ready (`TookTurn`, specs/Turn.antt). It is idle only where
+//! each of these was barred by the worker's own guards or excused by the fabric. What it asks for, `Fits`, holds again
+//! after it. Only `new` and a row take memory.
 #![tactic(auto)]
 
 mod attempts;
+mod closing;
 mod event;
 mod frames;
 mod guard;
 mod guards;
 mod hand;
+mod looks;
 mod outbox;
 mod stack;
 mod starts;
+mod tries;
 mod turn;
+mod turns;
 mod worker;
 
 pub use event::Event;

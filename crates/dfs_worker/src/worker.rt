@@ -1,4 +1,4 @@
-ghost use Rattle.std.specs.Prelude.{◌≡◌, ◌<◌, ◌≤◌, ◌*◌, ◌/◌, ◌++◌, [], ◌∷◌, reverse, length, IfOk, IfSome, IfNone, OnOk, OnErr, MatchOption, Some, None, true};
+ghost use Rattle.std.specs.Prelude.{◌≡◌, ◌<◌, ◌≤◌, ◌*◌, ◌/◌, ◌++◌, [], ◌∷◌, reverse, length, IfOk, IfSome, IsSomeAnd, IfNone, OnOk, OnErr, MatchOption, Some, None, true};
 
 use crate::hand::Hand;
 use crate::outbox::Outbox;
@@ -128,7 +128,7 @@ impl Worker {
     /// The buffer that is open for a stage and a machine.
     pub fn buffer(&self, stage: u32, to: u32) -> Option<&Buffer>
         ensures { MatchOption result (open_at self.now.slots stage to ≡ None)
-            (λ b. IfSome (open_at self.now.slots stage to) (λ m. m.items ≡ b.now)) }
+            (λ b. IsSomeAnd (open_at self.now.slots stage to) (λ m. m.items ≡ b.now)) }
     {
         match self.outbox.message(stage, to) {
             Some(message) => Some(&message.items),
@@ -263,6 +263,13 @@ impl Worker {
         ensures new { self.new ≡ record self.old { hand = hand } }
     {
         mem::replace(&mut self.hand, hand)
+    }
+
+    /// Sets the number of turns in a row that did nothing.
+    pub(crate) fn set_idle(&mut self, idle: u32)
+        ensures { self.new ≡ record self.old { idle = idle } }
+    {
+        self.idle = idle;
     }
 
     /// It claims no more.

@@ -60,6 +60,7 @@ impl Closer {
     pub fn next_word(&self) -> Option<Word>
         ensures first { result ≡ next_word_of self.now }
         ensures of_stage { IfSome result (IsWordOf self.now) }
+        ensures whole { length self.now.marked ≡ words_of self.now.machines self.now.stages self.now.stage }
     {
         let words = self.words();
         match first_unmarked(&self.marked[..words]) {
@@ -98,7 +99,8 @@ impl Closer {
 
     /// Whether all words of the stage are marked, and it is a stage.
     pub fn ready(&self) -> bool
-        ensures { result ≡ is_ready self.now }
+        ensures ready { result ≡ is_ready self.now }
+        ensures whole { length self.now.marked ≡ words_of self.now.machines self.now.stages self.now.stage }
     {
         let words = self.words();
         self.stage < self.stages && all_marked(&self.marked[..words])

@@ -12,9 +12,9 @@ use Rattle.typed_query.specs.declared.expr.Expr.{Expr}
 use Rattle.typed_query.specs.declared.expr.Expr.TheVariants as expr
 use Rattle.typed_query.specs.declared.query.Capture.{Capture}
 use Rattle.typed_query.specs.declared.query.What.TheVariants as what
-use Rattle.typed_expr.specs.declared.scope.Declared.{Declared}
+use Rattle.pattern_scope.specs.declared.scope.Declared.{Declared}
 use Rattle.typed_expr.specs.Meaning.{captured, date_value, meant, meant_of}
-use Rattle.typed_expr.specs.Names.{variable_of}
+use Rattle.pattern_scope.specs.Names.{variable_of}
 use Rattle.graph_tables.specs.Properties.{SchemaLists}
 use Rattle.typed_expr.specs.Typed.{alone, alone_of}
 use Rattle.typed_expr.specs.Uses.{literals, literals_of, property_use, use_of, uses, uses_of}

@@ -1,16 +1,14 @@
-mod Added
 mod AstByParts
 mod AstFolds
 mod Cases
+mod Columns
 mod Conjuncts
 mod Days
 pub use Rattle.typed_query.proofs.ExprByParts
 mod Flags
 pub use Rattle.typed_query.proofs.Folds
-mod Groups
 mod Lists
 mod Meanings
-mod Named
 mod Outcomes
 pub use Rattle.typed_query.proofs.Parts
 mod Queries
@@ -20,3 +18,4 @@ mod Scopes
 mod Trees
 pub use Rattle.typed_query.proofs.Validity
 mod Wholes
+mod Written

@@ -1,12 +1,11 @@
 -- Lists that are read from the front, and one more item each time.
-use Rattle.std.proofs.Common.{◌≡◌, ◌≤◌, ◌<◌, ℕ, zero, suc, ◌+◌, ◌-◌, Bool, true, false, if◌then◌else◌, List, [], ◌∷◌, ◌++◌, take, drop, length, map, get_or, Some, None, refl, sym, ap, ◌∙◌, append_assoc, arith}
-use Rattle.std.specs.Prelude.{flat_map, slice_set, position, nat_lt}
-use Rattle.std.specs.List.{range_with_len, position_or_len}
+use Rattle.std.proofs.Common.{◌≡◌, ◌≤◌, ◌<◌, ℕ, zero, suc, ◌+◌, ◌-◌, Bool, true, false, if◌then◌else◌, List, [], ◌∷◌, ◌++◌, drop, length, map, get_or, Some, None, refl, sym, ap, ◌∙◌, append_assoc, arith}
+use Rattle.std.specs.Prelude.{flat_map, position, nat_lt}
+use Rattle.std.specs.List.{position_or_len}
 use Rattle.std.specs.Prelude.{fold, min, not, ◌^◌}
 use Rattle.std.proofs.lemmas.List.{length-append}
 use Rattle.std.proofs.lemmas.List.Sums.{fold-append, prefix_len-le-length}
 use Rattle.std.proofs.lemmas.Bool.Decides.{nat_tests}
-use Rattle.typed_expr.specs.Joined.{merged, moved}
 
 drop-front : {X : Type 0} (xs : List X) (i : ℕ) (d : X) → i < length xs → drop i xs ≡ get_or xs i d ∷ drop (i + 1) xs
 drop-front [] i d below = absurd (omega arith)
@@ -29,26 +28,6 @@ map-step f whole made more xs i d below so_far is =
     ap (λ m. m ++ map f (drop (i + 1) xs)) is
     ∙ append_assoc made (f (get_or xs i d) ∷ []) (map f (drop (i + 1) xs))
     ∙ ap (λ rest. made ++ map f rest) (sym (drop-front xs i d below))
-    ∙ so_far
-
--- a group is moved, after those before it
-pub merged-step : (from to : ℕ) (old : List ℕ) (i : ℕ) (now : List ℕ) → i < length old → now ≡ take i (merged from to old) ++ drop i old
-    → slice_set now i (moved from to (get_or now i 0)) ≡ take (i + 1) (merged from to old) ++ drop (i + 1) old
-merged-step from to [] i now below is = absurd (omega arith)
-merged-step from to (group ∷ old) zero now below is = ap (λ n. slice_set n 0 (moved from to (get_or n 0 0))) is
-merged-step from to (group ∷ old) (suc i) now below is =
-    ap (λ n. slice_set n (suc i) (moved from to (get_or n (suc i) 0))) is
-    ∙ ap (λ rest. moved from to group ∷ rest) (merged-step from to old i (take i (merged from to old) ++ drop i old) (omega arith) refl)
-    ∙ ap (λ n. take n (merged from to (group ∷ old)) ++ drop n (group ∷ old)) (let same : suc (i + 1) ≡ suc i + 1 = omega arith in same)
-
--- one number more of a range, and those that are left
-pub range-push : (count number : ℕ) (made more : List ℕ) → number < count → made ++ range_with_len number (count - number) ≡ range_with_len 0 count → more ≡ made ++ number ∷ []
-    → more ++ range_with_len (number + 1) (count - (number + 1)) ≡ range_with_len 0 count
-range-push count number made more below so_far is =
-    let left : count - number ≡ suc (count - (number + 1)) = omega arith in
-    ap (λ m. m ++ range_with_len (number + 1) (count - (number + 1))) is
-    ∙ append_assoc made (number ∷ []) (range_with_len (number + 1) (count - (number + 1)))
-    ∙ ap (λ n. made ++ range_with_len number n) (sym left)
     ∙ so_far
 
 -- what isn't found stands past the end
@@ -96,3 +75,6 @@ min-add a b m = omega arith
 
 pub min-add3 : (a b c m : ℕ) → min (min (min a m + min b m) m + min c m) m ≡ min (a + (b + c)) m
 min-add3 a b c m = omega arith
+
+pub from_zero : (i : ℕ) → 0 + i ≡ i
+from_zero i = omega arith

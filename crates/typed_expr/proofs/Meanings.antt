@@ -1,15 +1,16 @@
--- What holds of the meaning of each expression: its captures are there, its constants are valid, and it doesn't
--- depend on places.
-use Rattle.std.proofs.Common.{◌≡◌, ◌∙◌, refl, sym, ap, subst, ℕ, ℤ, ◌<◌, Bool, true, ◌&&◌, List, [], length, map, Option, Some, None, arith}
-use Rattle.std.specs.List.{AllByRecursion, cons_option, position_or_len}
+-- What holds of the meaning of each expression: its captures are there and keep to the schema, its constants are
+-- valid, and it doesn't depend on places.
+use Rattle.std.proofs.Common.{◌≡◌, ◌∙◌, refl, sym, ap, subst, ℕ, ℤ, ◌+◌, ◌<◌, Bool, true, false, ◌&&◌, List, [], ◌∷◌, ◌++◌, append_assoc, length, map, Option, Some, None, arith}
+use Rattle.std.specs.List.{AllByRecursion, cons_option, position_or_len, slice_get}
+use Rattle.std.specs.Option.{option_map}
 use Rattle.std.specs.Str.{bytes_eq}
 use Rattle.std.proofs.lemmas.Bool.{eq-eqb}
-use Rattle.std.proofs.lemmas.List.{length-map}
+use Rattle.std.proofs.lemmas.List.{length-append, length-map}
 use Rattle.std.proofs.lemmas.Option.{slice_get_within}
 use Rattle.std.proofs.lemmas.Slice.Eq.{bytes_eq-Decides}
 use Rattle.adfs_base.specs.declared.value.Kind.{Kind}
 use Rattle.adfs_base.specs.declared.value.Value.TheVariants as value
-use Rattle.graph_tables.specs.Properties.{SchemaLists}
+use Rattle.graph_tables.specs.Properties.{Property, SchemaLists, property_from}
 use Rattle.pgql_tree.specs.declared.ast.AstExpr.{AstExpr}
 use Rattle.pgql_tree.specs.declared.ast.AstExpr.TheVariants as ast
 use Rattle.pgql_tree.specs.Same.{bare, bare_name}
@@ -22,18 +23,45 @@ use Rattle.typed_query.specs.declared.expr.Expr.TheVariants as expr
 use Rattle.typed_query.specs.declared.query.Capture.{Capture}
 use Rattle.typed_query.specs.declared.query.What.{What}
 use Rattle.typed_query.specs.declared.query.What.TheVariants as what
-use Rattle.typed_expr.specs.declared.scope.Declared.{Declared}
+use Rattle.pattern_scope.specs.declared.scope.Declared.{Declared}
+use Rattle.typed_expr.specs.Captured.{HasItsKind, KeepsKind}
 use Rattle.typed_expr.specs.Kinds.{property_in}
 use Rattle.typed_expr.specs.Meaning.{captured, date_value, meant}
-use Rattle.typed_expr.specs.Names.{variable_of}
+use Rattle.pattern_scope.specs.Names.{variable_of}
 use Rattle.typed_query.specs.Parts.{HasCapturesBelow, HasValidConstants}
 use Rattle.typed_expr.specs.Uses.{literals, property_of_variable, property_use, same_use, same_what, use_of, uses}
-use Rattle.typed_expr.proofs.Added.{IsIn, all-join, all-split, position-within}
+use Rattle.pattern_scope.proofs.Added.{IsIn, all-join, all-split, position-within}
 use Rattle.typed_expr.proofs.AstByParts.{by_parts}
 use Rattle.typed_expr.proofs.Cases as cases
 use Rattle.typed_expr.proofs.Days.{date_is_day}
+use Rattle.typed_expr.proofs.Lists.{from_zero}
 use Rattle.typed_query.proofs.Parts as parts
 use Rattle.typed_expr.proofs.Scopes.{variable_found}
+
+at_seam : (before rest : List Property) (p : Property) → slice_get (before ++ p ∷ rest) (length before) ≡ Some p
+at_seam [] rest p = refl
+at_seam (x ∷ before) rest p = at_seam before rest p
+
+-- a property that is found by its name has that number and that kind
+property-found : (before rest : List Property) (name : List ℕ) (found : ℕ × Kind) → property_from (length before) rest name ≡ Some found
+    → option_map (λ p. p.type) (slice_get (before ++ rest) found.0) ≡ Some found.1
+property-found before [] name found is = absurd cc
+property-found before (p ∷ rest) name found is = by_test (bytes_eq name p.name) refl (property-found (before ++ p ∷ []) rest name found)
+  where
+    by_test : (t : Bool) → bytes_eq name p.name ≡ t
+        → (property_from (length (before ++ p ∷ [])) rest name ≡ Some found → option_map (λ p. p.type) (slice_get ((before ++ p ∷ []) ++ rest) found.0) ≡ Some found.1)
+        → option_map (λ p. p.type) (slice_get (before ++ p ∷ rest) found.0) ≡ Some found.1
+    by_test true here more =
+        let same : Some (length before, p.type) ≡ Some found = rw here at is in
+        subst (λ f. option_map (λ p. p.type) (slice_get (before ++ p ∷ rest) f.0) ≡ Some f.1) (let e : (length before, p.type) ≡ found = cc in e) (ap (option_map (λ p. p.type)) (at_seam before rest p))
+    by_test false other more =
+        let later : property_from (length before + 1) rest name ≡ Some found = rw other at is in
+        subst (λ all. option_map (λ p. p.type) (slice_get all found.0) ≡ Some found.1) (append_assoc before (p ∷ []) rest)
+        (more (subst (λ n. property_from n rest name ≡ Some found) (sym (length-append before (p ∷ []))) later))
+
+property-kept : (schema : SchemaLists) (edge : Bool) (name : List ℕ) (found : ℕ × Kind) → property_in schema edge name ≡ Some found → KeepsKind schema (what.Property found.0 found.1) (Some edge)
+property-kept schema false name found is = property-found [] schema.vertex name found is
+property-kept schema true name found is = property-found [] schema.edge name found is
 
 pub use-itself : (a : Capture) → same_use a a ≡ true
 use-itself a = ap (λ t. t && same_what a.what a.what) (eq-eqb a.variable a.variable refl) ∙ of_what a.what
@@ -57,38 +85,72 @@ module _ (schema : SchemaLists) (variables : List Declared) where
       let within = slice_get_within (map (λ v. v.edge) variables) place.0 found.1 place.2 in
       omega (arith, place.1, within, length-map variables (λ v. v.edge))
 
-  use-names : (w : What) (name : List ℕ) (found : Option (ℕ × Bool)) → variable_of variables name ≡ found → AllByRecursion NamesVariable (cons_option (use_of w found) [])
-  use-names w name None is = tt
-  use-names w name (Some found) is = (variable-within name found is, tt)
+  -- what holds of each use of a variable
+  record EachUse (P : Capture → Type 0) : Type 0 where
+    of_key : (name : List ℕ) (found : ℕ × Bool) → variable_of variables name ≡ Some found → P (record { variable = found.0; what = what.Id })
+    of_label : (name : List ℕ) (found : ℕ × Bool) → variable_of variables name ≡ Some found → P (record { variable = found.0; what = what.Label })
+    of_property : (property name : List ℕ) (found : ℕ × Bool) (p : ℕ × Kind) → variable_of variables name ≡ Some found → property_in schema found.1 property ≡ Some p
+        → P (record { variable = found.0; what = what.Property p.0 p.1 })
 
-  property-names : (property name : List ℕ) (found : Option (ℕ × Bool)) → variable_of variables name ≡ found → AllByRecursion NamesVariable (cons_option (property_use schema property found) [])
-  property-names property name None is = tt
-  property-names property name (Some found) is = of_property (property_in schema found.1 property)
-    where
-      of_property : (p : Option (ℕ × Kind)) → AllByRecursion NamesVariable (cons_option (property_of_variable found.0 p) [])
-      of_property None = tt
-      of_property (Some p) = (variable-within name found is, tt)
+  module _ (P : Capture → Type 0) (each : EachUse P) where
+    use-key : (name : List ℕ) (found : Option (ℕ × Bool)) → variable_of variables name ≡ found → AllByRecursion P (cons_option (use_of what.Id found) [])
+    use-key name None is = tt
+    use-key name (Some found) is = (each.of_key name found is, tt)
 
-  named : (a : AstExpr) {found : List Capture} → uses schema variables a ≡ found → AllByRecursion NamesVariable found → AllByRecursion NamesVariable (uses schema variables a)
-  named a is all = subst (AllByRecursion NamesVariable) (sym is) all
+    use-label : (name : List ℕ) (found : Option (ℕ × Bool)) → variable_of variables name ≡ found → AllByRecursion P (cons_option (use_of what.Label found) [])
+    use-label name None is = tt
+    use-label name (Some found) is = (each.of_label name found is, tt)
+
+    use-property : (property name : List ℕ) (found : Option (ℕ × Bool)) → variable_of variables name ≡ found → AllByRecursion P (cons_option (property_use schema property found) [])
+    use-property property name None is = tt
+    use-property property name (Some found) is = of_property (property_in schema found.1 property) refl
+      where
+        of_property : (p : Option (ℕ × Kind)) → property_in schema found.1 property ≡ p → AllByRecursion P (cons_option (property_of_variable found.0 p) [])
+        of_property None there = tt
+        of_property (Some p) there = (each.of_property property name found p is there, tt)
+
+    told : (a : AstExpr) {found : List Capture} → uses schema variables a ≡ found → AllByRecursion P found → AllByRecursion P (uses schema variables a)
+    told a is all = subst (AllByRecursion P) (sym is) all
+
+    each_use : (a : AstExpr) → AllByRecursion P (uses schema variables a)
+    each_use = by_parts (λ a. AllByRecursion P (uses schema variables a)) (record {
+      int = λ number at. told (ast.Int number at) (cases.uses-Int _ _ _ number at refl) tt;
+      text = λ content at. told (ast.Text content at) (cases.uses-Text _ _ _ content at refl) tt;
+      date = λ content at. told (ast.Date content at) (cases.uses-Date _ _ _ content at refl) tt;
+      bool = λ truth at. told (ast.Bool truth at) (cases.uses-Bool _ _ _ truth at refl) tt;
+      name = λ name at. told (ast.Name name at) (cases.uses-Name _ _ _ name at refl) tt;
+      property = λ variable property at.
+          told (ast.Property variable property at) (cases.uses-Property _ _ _ variable property at refl) (use-property property variable (variable_of variables variable) refl);
+      id = λ variable at. told (ast.Id variable at) (cases.uses-Id _ _ _ variable at refl) (use-key variable.name (variable_of variables variable.name) refl);
+      label = λ variable at. told (ast.Label variable at) (cases.uses-Label _ _ _ variable at refl) (use-label variable.name (variable_of variables variable.name) refl);
+      not = λ inside at within. told (ast.Not inside at) (cases.uses-Not _ _ _ inside at refl) within;
+      neg = λ inside at within. told (ast.Neg inside at) (cases.uses-Neg _ _ _ inside at refl) within;
+      is_null = λ inside negated at within. told (ast.IsNull inside negated at) (cases.uses-IsNull _ _ _ inside negated at refl) within;
+      binary = λ op left right at first second.
+          told (ast.Binary op left right at) (cases.uses-Binary _ _ _ op left right at refl)
+          (all-join P (uses schema variables left) (uses schema variables right) first second);
+    })
 
   pub uses-name_variables : (a : AstExpr) → AllByRecursion NamesVariable (uses schema variables a)
-  uses-name_variables = by_parts (λ a. AllByRecursion NamesVariable (uses schema variables a)) (record {
-    int = λ number at. named (ast.Int number at) (cases.uses-Int _ _ _ number at refl) tt;
-    text = λ content at. named (ast.Text content at) (cases.uses-Text _ _ _ content at refl) tt;
-    date = λ content at. named (ast.Date content at) (cases.uses-Date _ _ _ content at refl) tt;
-    bool = λ truth at. named (ast.Bool truth at) (cases.uses-Bool _ _ _ truth at refl) tt;
-    name = λ name at. named (ast.Name name at) (cases.uses-Name _ _ _ name at refl) tt;
-    property = λ variable property at.
-        named (ast.Property variable property at) (cases.uses-Property _ _ _ variable property at refl) (property-names property variable (variable_of variables variable) refl);
-    id = λ variable at. named (ast.Id variable at) (cases.uses-Id _ _ _ variable at refl) (use-names what.Id variable.name (variable_of variables variable.name) refl);
-    label = λ variable at. named (ast.Label variable at) (cases.uses-Label _ _ _ variable at refl) (use-names what.Label variable.name (variable_of variables variable.name) refl);
-    not = λ inside at within. named (ast.Not inside at) (cases.uses-Not _ _ _ inside at refl) within;
-    neg = λ inside at within. named (ast.Neg inside at) (cases.uses-Neg _ _ _ inside at refl) within;
-    is_null = λ inside negated at within. named (ast.IsNull inside negated at) (cases.uses-IsNull _ _ _ inside negated at refl) within;
-    binary = λ op left right at first second.
-        named (ast.Binary op left right at) (cases.uses-Binary _ _ _ op left right at refl)
-        (all-join NamesVariable (uses schema variables left) (uses schema variables right) first second);
+  uses-name_variables = each_use NamesVariable (record {
+    of_key = variable-within;
+    of_label = variable-within;
+    of_property = λ property name found p is there. variable-within name found is;
+  })
+
+  -- the variable of a use, by its number
+  edge-found : (name : List ℕ) (found : ℕ × Bool) → variable_of variables name ≡ Some found → slice_get (map (λ v. v.edge) variables) found.0 ≡ Some found.1
+  edge-found name found is =
+      let place = variable_found 0 variables name found.0 found.1 is in
+      subst (λ n. slice_get (map (λ v. v.edge) variables) n ≡ Some found.1) (sym (from_zero place.0) ∙ place.1) place.2
+
+  -- a use of a property has the kind that the schema gives it
+  pub uses-keep_kinds : (a : AstExpr) → AllByRecursion (HasItsKind schema (map (λ v. v.edge) variables)) (uses schema variables a)
+  uses-keep_kinds = each_use (HasItsKind schema (map (λ v. v.edge) variables)) (record {
+    of_key = λ name found is. subst (KeepsKind schema what.Id) (sym (edge-found name found is)) tt;
+    of_label = λ name found is. subst (KeepsKind schema what.Label) (sym (edge-found name found is)) tt;
+    of_property = λ property name found p is there.
+        subst (KeepsKind schema (what.Property p.0 p.1)) (sym (edge-found name found is)) (property-kept schema found.1 property p there);
   })
 
   module _ (captures : List Capture) (texts : List (List ℕ)) where

@@ -4,13 +4,13 @@ use Rattle.std.specs.Prelude.{fold}
 use Rattle.std.proofs.lemmas.List.{take_all}
 use Rattle.pgql_tree.specs.declared.ast.Ast.{Ast}
 use Rattle.value_text.specs.Texts.{with_text}
-use Rattle.typed_expr.specs.declared.fault.TypeFault.{TypeFault}
-use Rattle.typed_expr.specs.declared.fault.TypeFault.TheVariants as fault
+use Rattle.pattern_scope.specs.declared.fault.TypeFault.{TypeFault}
+use Rattle.pattern_scope.specs.declared.fault.TypeFault.TheVariants as fault
 use Rattle.typed_query.specs.declared.query.Query.{Query}
-use Rattle.typed_expr.specs.declared.scope.Scope.{Scope}
+use Rattle.pattern_scope.specs.declared.scope.Scope.{Scope}
 use Rattle.typed_expr.specs.Faults.{earlier, earlier_of, first_of}
 use Rattle.graph_tables.specs.Properties.{SchemaLists}
-use Rattle.typed_expr.specs.Scope.{scope_of}
+use Rattle.pattern_scope.specs.Scope.{scope_of}
 use Rattle.typed_expr.specs.Typed.{Gives, all_literals, faults_of, first_fault, query_of, typed, typed_by}
 
 some_stays : (f : TypeFault) (faults : List TypeFault) → (e : TypeFault) × (fold earlier_of (Some f) faults ≡ Some e)

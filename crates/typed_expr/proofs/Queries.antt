@@ -1,12 +1,11 @@
--- The query of a tree without faults is well formed, and its constants are valid.
+-- The query of a tree without faults is well formed, its constants are valid, and its captures keep to the schema.
 use Rattle.std.proofs.Common.{◌≡◌, ◌∙◌, refl, sym, ap, subst, ℕ, suc, ◌+◌, ◌≤◌, ◌<◌, Bool, true, false, List, [], ◌∷◌, ◌++◌, length, map, Option, Some, None, Result, Ok, Err, arith}
-use Rattle.std.specs.Prelude.{find, flat_map, fold, slice_index, All, IfOk}
+use Rattle.std.specs.Prelude.{find, flat_map, fold, All, IfOk}
 use Rattle.std.specs.List.{AllByRecursion, Contains, list_any}
 use Rattle.std.specs.Option.{option_and_then}
 use Rattle.std.specs.Str.{bytes_eq}
 use Rattle.std.proofs.lemmas.List.{append-nil, length-map}
 use Rattle.std.proofs.lemmas.List.Elements.{All-from_recursion, recursion_from_All}
-use Rattle.std.proofs.lemmas.Option.{slice_get_within}
 use Rattle.graph_tables.specs.Properties.{SchemaLists}
 use Rattle.pgql_tree.specs.declared.ast.Ast.{Ast}
 use Rattle.pgql_tree.specs.declared.ast.AstExpr.{AstExpr}
@@ -16,27 +15,29 @@ use Rattle.pgql_tree.specs.declared.ast.Op.{Op}
 use Rattle.value_text.specs.Texts.{with_text}
 use Rattle.typed_query.specs.declared.expr.Expr.{Expr}
 use Rattle.typed_query.specs.declared.expr.Expr.TheVariants as expr
-use Rattle.typed_expr.specs.declared.fault.TypeFault.{TypeFault}
+use Rattle.pattern_scope.specs.declared.fault.TypeFault.{TypeFault}
 use Rattle.typed_query.specs.declared.query.Capture.{Capture}
 use Rattle.typed_query.specs.declared.query.Query.{Query}
-use Rattle.typed_expr.specs.declared.scope.Declared.{Declared}
-use Rattle.typed_expr.specs.declared.scope.Scope.{Scope}
-use Rattle.typed_expr.specs.Joined.{disconnected, groups_of}
+use Rattle.pattern_scope.specs.declared.scope.Declared.{Declared}
+use Rattle.pattern_scope.specs.declared.scope.Scope.{Scope}
+use Rattle.pattern_scope.specs.Joined.{are_joined, disconnected}
+use Rattle.typed_expr.specs.Captured.{HasItsKind, HaveKinds}
 use Rattle.typed_expr.specs.Kinds.{checked}
 use Rattle.typed_expr.specs.Meaning.{conjuncts, is_and, meant}
 use Rattle.typed_query.specs.Parts.{HasCapturesBelow, HasValidConstants}
 use Rattle.typed_expr.specs.Same.{same}
-use Rattle.typed_expr.specs.Scope.{scope_of}
+use Rattle.pattern_scope.specs.Scope.{scope_of}
 use Rattle.typed_expr.specs.Typed as spec
 use Rattle.typed_expr.specs.Uses.{literals, same_use, uses}
 use Rattle.typed_query.specs.WellFormed.{IsClosed, IsVertex, IsWellFormed, JoinsVertices, are_edges, edges_from, expressions, vertices_from}
-use Rattle.typed_expr.proofs.Added.{IsIn, added-keep, all-added, all-join, all-split}
+use Rattle.pattern_scope.proofs.Added.{IsIn, added-keep, all-added, all-join, all-split}
 use Rattle.typed_expr.proofs.Conjuncts as conj
 use Rattle.typed_query.proofs.ExprByParts.{by_parts}
 use Rattle.typed_expr.proofs.Flags.{at_vertex, vertices_and_edges}
-use Rattle.typed_expr.proofs.Groups.{from_zero, in_first_group, tells-groups}
+use Rattle.typed_expr.proofs.Lists.{from_zero}
+use Rattle.pattern_scope.proofs.Joins.{all_joined, same-joined}
 use Rattle.typed_expr.proofs.Outcomes.{given}
-use Rattle.typed_expr.proofs.Meanings.{IsCaptured, IsText, NamesVariable, meant-captured, meant-same, meant-valid, text-itself, use-itself, uses-name_variables}
+use Rattle.typed_expr.proofs.Meanings.{IsCaptured, IsText, NamesVariable, meant-captured, meant-same, meant-valid, text-itself, use-itself, uses-keep_kinds, uses-name_variables}
 use Rattle.typed_query.proofs.Parts.{below_left, below_right, left-Binary, right-Binary}
 use Rattle.typed_expr.proofs.SameLaw.{is_told}
 use Rattle.typed_expr.proofs.Scopes.{IsSound, edges_in, first-is-vertex, scope-sound}
@@ -201,7 +202,7 @@ valid_sides op left right valid = (left-Binary valid op left right refl, right-B
 -- the parts of a list of faults that is empty
 record AreNone (schema : SchemaLists) (ast : Ast) (scope : Scope) : Type 0 where
   declared : scope.faults ≡ []
-  joined : disconnected (groups_of (length scope.variables) scope.links) scope.vertices ≡ []
+  joined : disconnected scope.links scope.vertices ≡ []
   keys : flat_map (spec.key_faults schema scope.variables ast.distinct ast.items) ast.keys ≡ []
 
 none_of : (schema : SchemaLists) (ast : Ast) (scope : Scope) → spec.faults_of schema ast scope ≡ [] → AreNone schema ast scope
@@ -210,7 +211,7 @@ none_of schema ast scope none =
     let condition = spec.condition_faults schema scope.variables ast.condition in
     let doubled = spec.double_names [] ast.items in
     let items = flat_map (λ item. spec.faults_in (checked schema scope.variables item.expr).kind) ast.items in
-    let apart = disconnected (groups_of (length scope.variables) scope.links) scope.vertices in
+    let apart = disconnected scope.links scope.vertices in
     let both = none_of_both (scope.faults ++ apart) (spec.expression_faults schema scope.variables ast) none in
     let pattern = none_of_both scope.faults apart both.0 in
     let expressions = none_of_both (items ++ doubled ++ condition) keys both.1 in
@@ -223,17 +224,14 @@ module _ (schema : SchemaLists) (ast : Ast) (scope : Scope) (texts : List (List 
   edges_same : are_edges (spec.query_of schema ast scope texts) ≡ edges_in scope
   edges_same = edges-variables_from 0 scope.labels scope.variables
 
-  connected : IsSound [] scope → disconnected (groups_of (length scope.variables) scope.links) scope.vertices ≡ [] → (set : ℕ → Bool) → IsClosed (spec.query_of schema ast scope texts) set
+  connected : IsSound [] scope → disconnected scope.links scope.vertices ≡ [] → (set : ℕ → Bool) → IsClosed (spec.query_of schema ast scope texts) set
       → (number : ℕ) → IsVertex (are_edges (spec.query_of schema ast scope texts)) number → set number ≡ true
   connected sound none set closed number is =
-      let groups = groups_of (length scope.variables) scope.links in
       let vertex = subst (λ edges. IsVertex edges number) edges_same is in
-      let within : number < length scope.variables = omega (arith, slice_get_within (edges_in scope) number false vertex, length-map scope.variables (λ v. v.edge)) in
       let linked = sound.follows set (recursion_from_All (λ join. set join.source ≡ set join.target) scope.edges closed.both_or_neither) in
-      let tells = tells-groups set (length scope.variables) scope.links sound.within linked in
-      let first = subst (AllByRecursion (λ n. slice_index groups n ≡ slice_index groups 0)) sound.vertices (in_first_group groups scope.vertices none) in
-      let here = subst (λ n. slice_index groups n ≡ slice_index groups 0) (from_zero number) (at_vertex (λ n. slice_index groups n ≡ slice_index groups 0) 0 (edges_in scope) number first vertex) in
-      sym (tells number within) ∙ ap set here ∙ tells 0 (omega (arith, within)) ∙ closed.has_first
+      let joined = subst (AllByRecursion (λ n. are_joined scope.links 0 n ≡ true)) sound.vertices (all_joined scope.links scope.vertices none) in
+      let here = subst (λ n. are_joined scope.links 0 n ≡ true) (from_zero number) (at_vertex (λ n. are_joined scope.links 0 n ≡ true) 0 (edges_in scope) number joined vertex) in
+      sym (same-joined set scope.links linked 0 number here) ∙ closed.has_first
 
   pub well_formed : 0 < length ast.paths → scope ≡ scope_of ast.paths → spec.faults_of schema ast scope ≡ [] → IsWellFormed (spec.query_of schema ast scope texts)
   well_formed some declared no_fault =
@@ -272,6 +270,13 @@ module _ (schema : SchemaLists) (ast : Ast) (scope : Scope) (texts : List (List 
       (each_expression (HasValidConstants texts) valid_sides literals (IsText schema scope.variables captures texts) (meant schema scope.variables captures texts)
       (meant-valid schema scope.variables captures texts) ast scope captures all)
 
+  -- the captures have the kinds that the schema has
+  pub have_kinds : HaveKinds schema (spec.query_of schema ast scope texts)
+  have_kinds =
+      subst (λ edges. AllByRecursion (HasItsKind schema edges) (spec.captures_of schema scope.variables ast)) (sym edges_same)
+      (added-keep same_use use-itself (HasItsKind schema (edges_in scope)) [] (spec.of_all (uses schema scope.variables) ast) tt
+      (all_of (uses schema scope.variables) (HasItsKind schema (edges_in scope)) (uses-keep_kinds schema scope.variables) ast))
+
 -- what was given as the meaning of a tree
 module _ (schema : SchemaLists) (old new : List (List ℕ)) (ast : Ast) where
   pub given-well_formed : (answer : Result Query TypeFault) → spec.Gives old new answer (spec.typed schema old ast) → 0 < length ast.paths → IfOk answer IsWellFormed
@@ -287,3 +292,10 @@ module _ (schema : SchemaLists) (old new : List (List ℕ)) (ast : Ast) where
   given-valid (Ok query) gives =
       let parts = given schema old new ast (scope_of ast.paths) query gives in
       subst (λ q. All (HasValidConstants new) (expressions q)) (sym parts.2) (constants_valid schema ast (scope_of ast.paths) new old parts.1)
+
+  pub given-kinds : (answer : Result Query TypeFault) → spec.Gives old new answer (spec.typed schema old ast) → IfOk answer (HaveKinds schema)
+  unfolding spec.typed
+  given-kinds (Err e) gives = tt
+  given-kinds (Ok query) gives =
+      let parts = given schema old new ast (scope_of ast.paths) query gives in
+      subst (HaveKinds schema) (sym parts.2) (have_kinds schema ast (scope_of ast.paths) new)

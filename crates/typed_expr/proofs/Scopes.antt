@@ -4,22 +4,21 @@ use Rattle.std.specs.Prelude.{nat_le, fold}
 use Rattle.std.specs.List.{AllByRecursion, slice_get}
 use Rattle.std.proofs.lemmas.Bool.Decides.{nat_tests}
 use Rattle.std.proofs.lemmas.List.{append-nil, length-append, length-map, map-append}
-use Rattle.std.proofs.lemmas.Option.{slice_get_within}
 use Rattle.adfs_base.specs.declared.limits.TheConstants.{EDGE_VARIABLES, VERTEX_VARIABLES}
 use Rattle.pgql_tree.specs.declared.ast.EdgePat.{EdgePat}
 use Rattle.pgql_tree.specs.declared.ast.Path.{Path}
 use Rattle.pgql_tree.specs.declared.ast.Placed.{Placed}
 use Rattle.pgql_tree.specs.declared.ast.VertexPat.{VertexPat}
-use Rattle.typed_expr.specs.declared.fault.TypeFault.{TypeFault}
-use Rattle.typed_expr.specs.declared.fault.TypeFault.TheVariants as fault
+use Rattle.pattern_scope.specs.declared.fault.TypeFault.{TypeFault}
+use Rattle.pattern_scope.specs.declared.fault.TypeFault.TheVariants as fault
 use Rattle.typed_query.specs.declared.query.EdgeJoin.{EdgeJoin}
-use Rattle.typed_expr.specs.declared.scope.Declared.{Declared}
-use Rattle.typed_expr.specs.declared.scope.Scope.{Scope}
-use Rattle.typed_expr.specs.Names.{is_name, variable_from, variable_of}
-use Rattle.typed_expr.specs.Scope as spec
+use Rattle.pattern_scope.specs.declared.scope.Declared.{Declared}
+use Rattle.pattern_scope.specs.declared.scope.Scope.{Scope}
+use Rattle.pattern_scope.specs.Names.{is_name, variable_from, variable_of}
+use Rattle.pattern_scope.specs.Scope as spec
 use Rattle.typed_query.specs.WellFormed.{IsVertex, JoinsVertices, edges_from, vertices_from}
 use Rattle.typed_expr.proofs.Flags.{edges-push_edge, edges-push_vertex, get-push, get-pushed, vertices-push_edge, vertices-push_vertex}
-use Rattle.typed_expr.proofs.Groups.{LinksWithin, from_zero}
+use Rattle.typed_expr.proofs.Lists.{from_zero}
 
 abbrev pub edges_in : Scope → List Bool
 edges_in scope = map (λ variable. variable.edge) scope.variables
@@ -35,7 +34,6 @@ pub record IsSound (waiting : List ℕ) (scope : Scope) : Type 0 where
   pub vertices : map (λ vertex. vertex.0) scope.vertices ≡ vertices_from 0 (edges_in scope)
   pub joined : map (λ join. join.edge) scope.edges ++ waiting ≡ edges_from 0 (edges_in scope)
   pub ends : AllByRecursion (JoinsVertices (edges_in scope)) scope.edges
-  pub within : AllByRecursion (LinksWithin (length scope.variables)) scope.links
   pub follows : FollowsJoins scope.edges scope.links
 
 -- later patterns leave vertices and faults as they are
@@ -97,9 +95,6 @@ joins-push edges edge join joins = record {
   target = get-push edges false edge join.target joins.target;
 }
 
-links-more : (count : ℕ) (link : ℕ × ℕ) → LinksWithin count link → LinksWithin (count + 1) link
-links-more count link within = record { left = omega (arith, within.left); right = omega (arith, within.right) }
-
 length-push : {X : Type 0} (xs : List X) (x : X) → length (xs ++ x ∷ []) ≡ length xs + 1
 length-push xs x = length-append xs (x ∷ [])
 
@@ -119,8 +114,6 @@ sound-with_vertex waiting scope name pattern sound room =
           ∙ sym (ap (vertices_from 0) pushed ∙ vertices-push_vertex 0 edges);
       joined = sound.joined ∙ sym (ap (edges_from 0) pushed ∙ edges-push_vertex 0 edges);
       ends = subst (λ all. AllByRecursion (JoinsVertices all) scope.edges) (sym pushed) (AllWeaker (JoinsVertices edges) (JoinsVertices (edges ++ false ∷ [])) (joins-push edges false) scope.edges sound.ends);
-      within = subst (λ count. AllByRecursion (LinksWithin count) scope.links) (sym (length-push scope.variables variable))
-          (AllWeaker (LinksWithin (length scope.variables)) (LinksWithin (length scope.variables + 1)) (links-more (length scope.variables)) scope.links sound.within);
       follows = sound.follows;
     }
 
@@ -140,8 +133,6 @@ sound-with_edge scope name pattern sound room =
           ∙ ap (λ n. edges_from 0 edges ++ n ∷ []) (sym (from_zero (length edges) ∙ length-edges scope.variables))
           ∙ sym (ap (edges_from 0) pushed ∙ edges-push_edge 0 edges);
       ends = subst (λ all. AllByRecursion (JoinsVertices all) scope.edges) (sym pushed) (AllWeaker (JoinsVertices edges) (JoinsVertices (edges ++ true ∷ [])) (joins-push edges true) scope.edges sound.ends);
-      within = subst (λ count. AllByRecursion (LinksWithin count) scope.links) (sym (length-push scope.variables variable))
-          (AllWeaker (LinksWithin (length scope.variables)) (LinksWithin (length scope.variables + 1)) (links-more (length scope.variables)) scope.links sound.within);
       follows = sound.follows;
     }
 
@@ -192,7 +183,7 @@ vertex_again waiting scope pattern name number is sound = (
   (λ none.
       let s = sound none in
       let found = variable_found 0 scope.variables name number false is in (
-        record { few_vertices = s.few_vertices; few_edges = s.few_edges; vertices = s.vertices; joined = s.joined; ends = s.ends; within = s.within; follows = s.follows },
+        record { few_vertices = s.few_vertices; few_edges = s.few_edges; vertices = s.vertices; joined = s.joined; ends = s.ends; follows = s.follows },
         (number, refl, subst (IsVertex (edges_in scope)) (sym (from_zero found.0) ∙ found.1) found.2),
       )),
 )
@@ -245,10 +236,6 @@ sound-joined scope join left right sound is_left is_right joins follows = record
   vertices = sound.vertices;
   joined = append-nil (map (λ j. j.edge) (scope.edges ++ join ∷ [])) ∙ map-append (λ j. j.edge) scope.edges (join ∷ []) ∙ sound.joined;
   ends = AllPush (JoinsVertices (edges_in scope)) scope.edges join sound.ends joins;
-  within = AllPush (LinksWithin (length scope.variables)) scope.links (left, right) sound.within (record {
-    left = subst (λ count. left < count) (length-edges scope.variables) (slice_get_within (edges_in scope) left false is_left);
-    right = subst (λ count. right < count) (length-edges scope.variables) (slice_get_within (edges_in scope) right false is_right);
-  });
   follows = λ set all.
       let parts = all_but_last (λ j. set j.source ≡ set j.target) scope.edges join all in
       AllPush (λ link. set link.0 ≡ set link.1) scope.links (left, right) (sound.follows set parts.0) (follows set parts.1);
@@ -317,7 +304,7 @@ paths-end scope (path ∷ paths) sound =
     (extends-then scope (spec.after_path scope path) (fold spec.after_path (spec.after_path scope path) paths) one.1 rest.0, rest.1)
 
 nothing-sound : IsSound [] spec.nothing_declared
-nothing-sound = record { few_vertices = omega arith; few_edges = omega arith; vertices = refl; joined = refl; ends = tt; within = tt; follows = λ set all. tt }
+nothing-sound = record { few_vertices = omega arith; few_edges = omega arith; vertices = refl; joined = refl; ends = tt; follows = λ set all. tt }
 
 -- the patterns of a query without a fault are sound
 pub scope-sound : (paths : List Path) → (spec.scope_of paths).faults ≡ [] → IsSound [] (spec.scope_of paths)

@@ -1,7 +1,7 @@
 -- Faults of queries, and which of several is told.
 use Rattle.std.specs.Prelude.{ℕ, Bool, ◌&&◌, ◌||◌, ◌==◌, nat_lt, if◌then◌else◌, List, fold, Option, Some, None}
-use Rattle.typed_expr.specs.declared.fault.TypeFault.{TypeFault}
-use Rattle.typed_expr.specs.declared.fault.TypeFault.TheVariants as fault
+use Rattle.pattern_scope.specs.declared.fault.TypeFault.{TypeFault}
+use Rattle.pattern_scope.specs.declared.fault.TypeFault.TheVariants as fault
 
 abbrev pub place_of : TypeFault → ℕ
 place_of (fault.UnknownName at) = at

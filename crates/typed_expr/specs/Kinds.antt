@@ -8,12 +8,12 @@ use Rattle.pgql_tree.specs.declared.ast.AstExpr.{AstExpr}
 use Rattle.pgql_tree.specs.declared.ast.AstExpr.TheOpen.{AstExpr-F}
 use Rattle.pgql_tree.specs.declared.ast.AstExpr.TheFolds.{fold-AstExpr}
 use Rattle.value_text.specs.Dates.{date_cell}
-use Rattle.typed_expr.specs.declared.fault.TypeFault.{TypeFault}
-use Rattle.typed_expr.specs.declared.fault.TypeFault.TheVariants as fault
+use Rattle.pattern_scope.specs.declared.fault.TypeFault.{TypeFault}
+use Rattle.pattern_scope.specs.declared.fault.TypeFault.TheVariants as fault
 use Rattle.typed_expr.specs.declared.kinds.Checked.{Checked}
-use Rattle.typed_expr.specs.declared.scope.Declared.{Declared}
+use Rattle.pattern_scope.specs.declared.scope.Declared.{Declared}
 use Rattle.typed_expr.specs.Faults.{earlier}
-use Rattle.typed_expr.specs.Names.{variable_of}
+use Rattle.pattern_scope.specs.Names.{variable_of}
 use Rattle.graph_tables.specs.Properties.{SchemaLists, kind_eq, property_of}
 
 abbrev pub Verdict : Type 0

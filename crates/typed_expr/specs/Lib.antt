@@ -1,13 +1,14 @@
+pub mod Captured
 pub mod Faults
-pub mod Joined
+pub use Rattle.pattern_scope.specs.Joined
 pub mod Kinds
 pub mod Laws
 pub mod Meaning
-pub mod Names
+pub use Rattle.pattern_scope.specs.Names
 pub use Rattle.typed_query.specs.Parts
 pub mod Printed
 pub mod Same
-pub mod Scope
+pub use Rattle.pattern_scope.specs.Scope
 pub mod Typed
 pub mod Uses
 pub use Rattle.typed_query.specs.Val

@@ -16,8 +16,8 @@ use Rattle.typed_query.specs.declared.expr.Expr.TheOpen.{Expr-F}
 use Rattle.typed_query.specs.declared.expr.Expr.TheFolds.{para-Expr}
 use Rattle.typed_query.specs.declared.query.Capture.{Capture}
 use Rattle.typed_query.specs.declared.query.What.TheVariants as what
-use Rattle.typed_expr.specs.declared.scope.Declared.{Declared}
-use Rattle.typed_expr.specs.Names.{variable_of}
+use Rattle.pattern_scope.specs.declared.scope.Declared.{Declared}
+use Rattle.pattern_scope.specs.Names.{variable_of}
 use Rattle.graph_tables.specs.Properties.{SchemaLists}
 use Rattle.typed_expr.specs.Uses.{property_use, same_use, use_of}
 

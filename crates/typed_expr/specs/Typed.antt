@@ -1,7 +1,7 @@
 -- What a query means, or the first reason why it means nothing.
-use Rattle.std.specs.Prelude.{◌≡◌, ℕ, ◌+◌, ◌==◌, ◌&&◌, Bool, false, not, if◌then◌else◌, List, [], ◌∷◌, ◌++◌, length, map, filter, find, flat_map, fold, Option, Some, None, Result, Ok, Err}
+use Rattle.std.specs.Prelude.{◌≡◌, ℕ, ◌+◌, ◌==◌, ◌&&◌, Bool, false, not, if◌then◌else◌, List, [], ◌∷◌, ◌++◌, map, filter, find, flat_map, fold, Option, Some, None, Result, Ok, Err}
 use Rattle.std.specs.List.{list_any}
-use Rattle.std.specs.Option.{option_and_then}
+use Rattle.std.specs.Option.{option_and_then, option_map}
 use Rattle.std.specs.Str.{bytes_eq}
 use Rattle.adfs_base.specs.declared.value.Kind.TheVariants as kind
 use Rattle.pgql_tree.specs.declared.ast.Ast.{Ast}
@@ -14,21 +14,21 @@ use Rattle.pgql_tree.specs.declared.ast.AstExpr.TheFolds.{fold-AstExpr}
 use Rattle.pgql_tree.specs.Literals.{query_literals}
 use Rattle.value_text.specs.Texts.{Kept, with_text}
 use Rattle.typed_query.specs.declared.expr.Expr.{Expr}
-use Rattle.typed_expr.specs.declared.fault.TypeFault.{TypeFault}
-use Rattle.typed_expr.specs.declared.fault.TypeFault.TheVariants as fault
+use Rattle.pattern_scope.specs.declared.fault.TypeFault.{TypeFault}
+use Rattle.pattern_scope.specs.declared.fault.TypeFault.TheVariants as fault
 use Rattle.typed_query.specs.declared.query.Capture.{Capture}
 use Rattle.typed_query.specs.declared.query.Query.{Query}
 use Rattle.typed_query.specs.declared.query.Variable.{Variable}
-use Rattle.typed_expr.specs.declared.scope.Declared.{Declared}
-use Rattle.typed_expr.specs.declared.scope.Scope.{Scope}
+use Rattle.pattern_scope.specs.declared.scope.Declared.{Declared}
+use Rattle.pattern_scope.specs.declared.scope.Scope.{Scope}
 use Rattle.typed_expr.specs.Faults.{first_of}
-use Rattle.typed_expr.specs.Joined.{disconnected, groups_of}
+use Rattle.pattern_scope.specs.Joined.{disconnected}
 use Rattle.typed_expr.specs.Kinds.{Verdict, checked, one_part}
 use Rattle.typed_expr.specs.Meaning.{conjuncts, meant}
 use Rattle.typed_expr.specs.Printed.{printed}
 use Rattle.graph_tables.specs.Properties.{SchemaLists}
 use Rattle.typed_expr.specs.Same.{same}
-use Rattle.typed_expr.specs.Scope.{scope_of}
+use Rattle.pattern_scope.specs.Scope.{scope_of}
 use Rattle.typed_expr.specs.Uses.{uses, with_use}
 
 abbrev pub alone_of : AstExpr-F (Option (List ℕ)) → Option (List ℕ)
@@ -46,6 +46,10 @@ is_called_so name (Some own) = bytes_eq own.name name
 -- the item has this AS name
 abbrev pub is_called : List ℕ → Item → Bool
 is_called name item = is_called_so name item.name
+
+-- an item as that for which its AS name stands
+abbrev pub as_declared : Item → Declared
+as_declared item = record { name = option_map (λ own. own.name) item.name; edge = false }
 
 -- the item that an order key stands for, where it is an AS name alone
 abbrev pub item_of : List Item → AstExpr → Option Item
@@ -68,6 +72,10 @@ double_names earlier (item ∷ items) = double_name earlier item.name ++ double_
 abbrev pub condition_faults : SchemaLists → List Declared → Option AstExpr → List TypeFault
 condition_faults schema variables None = []
 condition_faults schema variables (Some condition) = faults_in (one_part kind.Bool (checked schema variables condition))
+
+-- the distinct texts that are written of the items
+abbrev pub written : List Item → List (List ℕ)
+written items = fold with_text [] (map (λ item. printed item.expr) items)
 
 -- with DISTINCT an order key has the expression of a select item
 abbrev pub not_selected : Bool → List Item → Key → List TypeFault
@@ -92,7 +100,7 @@ expression_faults schema variables ast =
 -- all faults of a query whose patterns declare this
 abbrev pub faults_of : SchemaLists → Ast → Scope → List TypeFault
 faults_of schema ast scope =
-    scope.faults ++ disconnected (groups_of (length scope.variables) scope.links) scope.vertices ++ expression_faults schema scope.variables ast
+    scope.faults ++ disconnected scope.links scope.vertices ++ expression_faults schema scope.variables ast
 
 abbrev pub of_condition : {X : Type 0} → (AstExpr → List X) → Option AstExpr → List X
 of_condition f None = []

@@ -10,9 +10,9 @@ unfoldable pub use Rattle.pgql_tree.specs.Literals.{literals}
 use Rattle.typed_query.specs.declared.query.Capture.{Capture}
 use Rattle.typed_query.specs.declared.query.What.{What}
 use Rattle.typed_query.specs.declared.query.What.TheVariants as what
-use Rattle.typed_expr.specs.declared.scope.Declared.{Declared}
+use Rattle.pattern_scope.specs.declared.scope.Declared.{Declared}
 use Rattle.typed_expr.specs.Kinds.{property_in}
-use Rattle.typed_expr.specs.Names.{variable_of}
+use Rattle.pattern_scope.specs.Names.{variable_of}
 use Rattle.graph_tables.specs.Properties.{SchemaLists}
 
 abbrev pub same_what : What → What → Bool

@@ -1,17 +1,18 @@
 //! The query that a tree without faults means.
-ghost use Rattle.std.specs.Prelude.{◌≡◌, ◌++◌, ◌∷◌, [], IfOk, OnOk};
+ghost use Rattle.std.specs.Prelude.{◌≡◌, ◌++◌, ◌∷◌, [], IfOk, OnOk, map};
 ghost use Rattle.typed_expr.specs.Meaning as meaning;
 ghost use Rattle.typed_expr.specs.Typed as spec;
 
 use crate::captures::add_captures;
 use crate::expr::Expr;
-use crate::items::item_of;
+use crate::items::{Columns, add_names, item_of};
 use crate::meaning::{Scene, add_conjuncts, meant};
 use crate::printed::printed;
 use crate::query::{EdgeJoin, Query, Variable};
-use crate::scope::{Declared, Scope, copied, copies, name_of};
 use adfs_base::{Name, NoMemory};
 use graph_tables::Schema;
+use pattern_scope::declarations::Declarations;
+use pattern_scope::scope::{Declared, Scope, copied, copies, name_of};
 use pgql_tree::{Ast, AstExpr, Item, Key};
 use sqlite_items::Items;
 use std::alloc::Global;
@@ -140,29 +141,62 @@ fn add_columns(
 }
 
 // The expression that an order key stands for.
-fn key_expr(items: &[Item], expr: &AstExpr, scene: Scene<'_>) -> Result<Expr, NoMemory>
-    ensures { IfOk result (λ found. found ≡ meaning.meant scene.entry.schema.now scene.entry.variables.now scene.entry.captures.now scene.entry.texts.now (spec.key_expr items.now expr.now)) }
+fn key_expr(columns: Columns<'_>, expr: &AstExpr, scene: Scene<'_>) -> Result<Expr, NoMemory>
+    requires { columns.names.now ≡ map spec.as_declared columns.items.now }
+    ensures { IfOk result (λ found. found ≡ meaning.meant scene.entry.schema.now scene.entry.variables.now scene.entry.captures.now scene.entry.texts.now (spec.key_expr columns.entry.items.now expr.now)) }
 {
-    match item_of(items, expr) {
+    match item_of(columns, expr) {
         Some(item) => meant(&item.expr, scene),
         None => meant(expr, scene),
     }
 }
 
 fn add_key(
-    items: &[Item],
+    columns: Columns<'_>,
     key: &Key,
     scene: Scene<'_>,
     keys: &mut Items<(Expr, bool)>,
 ) -> Result<(), NoMemory>
-    ensures { OnOk result (keys.new ≡ keys.old ++ (meaning.meant scene.entry.schema.now scene.entry.variables.now scene.entry.captures.now scene.entry.texts.now (spec.key_expr items.now key.now.expr), key.now.down) ∷ []) }
+    requires { columns.names.now ≡ map spec.as_declared columns.items.now }
+    ensures { OnOk result (keys.new ≡ keys.old ++ (meaning.meant scene.entry.schema.now scene.entry.variables.now scene.entry.captures.now scene.entry.texts.now (spec.key_expr columns.entry.items.now key.now.expr), key.now.down) ∷ []) }
 {
-    let expr = key_expr(items, &key.expr, scene)?;
+    let expr = key_expr(columns, &key.expr, scene)?;
     keys.push((expr, key.down))?;
     Ok(())
 }
 
 fn add_keys(
+    columns: Columns<'_>,
+    keys: &[Key],
+    scene: Scene<'_>,
+    found: &mut Items<(Expr, bool)>,
+) -> Result<(), NoMemory>
+    requires { columns.names.now ≡ map spec.as_declared columns.items.now }
+    ensures { OnOk result (found.new ≡ found.old ++ spec.keys_of (meaning.meant scene.entry.schema.now scene.entry.variables.now scene.entry.captures.now scene.entry.texts.now) columns.entry.items.now keys.now) }
+{
+    for key in keys {
+        add_key(columns, key, scene, found)?;
+    }
+    Ok(())
+}
+
+// The same, with the AS names of the items.
+fn add_keys_by_names(
+    items: &[Item],
+    keys: &[Key],
+    scene: Scene<'_>,
+    names: &mut Declarations,
+    found: &mut Items<(Expr, bool)>,
+) -> Result<(), NoMemory>
+    requires { names.old ≡ [] }
+    ensures { OnOk result (found.new ≡ found.old ++ spec.keys_of (meaning.meant scene.entry.schema.now scene.entry.variables.now scene.entry.captures.now scene.entry.texts.now) items.now keys.now) }
+{
+    add_names(scene.alloc, items, names)?;
+    let columns = Columns { items, names };
+    add_keys(columns, keys, scene, found)
+}
+
+fn add_order(
     items: &[Item],
     keys: &[Key],
     scene: Scene<'_>,
@@ -170,10 +204,8 @@ fn add_keys(
 ) -> Result<(), NoMemory>
     ensures { OnOk result (found.new ≡ found.old ++ spec.keys_of (meaning.meant scene.entry.schema.now scene.entry.variables.now scene.entry.captures.now scene.entry.texts.now) items.now keys.now) }
 {
-    for key in keys {
-        add_key(items, key, scene, found)?;
-    }
-    Ok(())
+    let mut names = Declarations::new(scene.alloc);
+    add_keys_by_names(items, keys, scene, &mut names, found)
 }
 
 // A query of which nothing is known but DISTINCT and LIMIT.
@@ -217,7 +249,7 @@ fn add_expressions(
     let items = ast.items.as_slice();
     add_condition(&ast.condition, scene, conjuncts)?;
     add_columns(items, scene, select)?;
-    add_keys(items, ast.keys.as_slice(), scene, keys)
+    add_order(items, ast.keys.as_slice(), scene, keys)
 }
 
 // Fills a bare query.

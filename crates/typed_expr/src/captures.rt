@@ -3,11 +3,11 @@ ghost use Rattle.std.specs.Prelude.{◌≡◌, OnOk, flat_map, fold};
 ghost use Rattle.typed_expr.specs.Typed as spec;
 ghost use Rattle.typed_expr.specs.Uses as uses;
 
-use crate::declarations::Declarations;
 use crate::query::Capture;
 use crate::uses::add_uses;
 use adfs_base::NoMemory;
 use graph_tables::Schema;
+use pattern_scope::declarations::Declarations;
 use pgql_tree::{Ast, AstExpr, Item, Key};
 use sqlite_items::Items;
 

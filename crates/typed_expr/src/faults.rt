@@ -1,21 +1,32 @@
 //! All faults of a query.
-ghost use Rattle.std.specs.Prelude.{◌≡◌, ◌++◌, [], IfOk, OnOk, flat_map};
-ghost use Rattle.std.specs.List.{list_any};
+ghost use Rattle.std.specs.Prelude.{◌≡◌, ◌++◌, [], List, IfOk, OnOk, flat_map, map};
+ghost use Rattle.std.specs.Bool.{OnTrue};
+ghost use Rattle.pgql_tree.specs.declared.ast.Item.{Item};
 ghost use Rattle.typed_expr.specs.Kinds as kinds;
-ghost use Rattle.typed_expr.specs.Same as same;
 ghost use Rattle.typed_expr.specs.Typed as spec;
 
-use crate::declarations::Declarations;
-use crate::fault::TypeFault;
-use crate::items::{is_called, item_of};
-use crate::joined::add_disconnected;
+use crate::items::{Columns, add_name, item_of};
 use crate::kinds::{check, first_of, one_part};
-use crate::scope::Scope;
-use adfs_base::{Kind, Name, NoMemory};
+use crate::selected::{Selection, add_all_written, is_selected};
+use adfs_base::{Kind, NoMemory};
 use graph_tables::Schema;
-use pgql_tree::{Ast, AstExpr, Item, Key, Placed, same_expr};
+use pattern_scope::declarations::Declarations;
+use pattern_scope::fault::TypeFault;
+use pattern_scope::joined::add_disconnected;
+use pattern_scope::scope::Scope;
+use pgql_tree::{Ast, AstExpr, Item, Key, Placed};
 use sqlite_items::Items;
 use std::alloc::Global;
+use value_text::Texts;
+
+// What the faults of expressions depend on.
+#[derive(Clone, Copy)]
+struct Setting<'a> {
+    alloc: Global,
+    variables: &'a Declarations,
+    schema: &'a Schema,
+    distinct: bool,
+}
 
 fn add_fault(
     verdict: Result<Kind, TypeFault>,
@@ -43,37 +54,35 @@ fn add_item_faults(
     Ok(())
 }
 
-fn is_taken(earlier: &[Item], name: &Name) -> bool
-    ensures { result ≡ list_any (spec.is_called name.now) earlier.now }
-{
-    for item in earlier {
-        if is_called(name, item) {
-            return true;
-        }
-    }
-    false
-}
-
 fn add_double_name(
-    earlier: &[Item],
+    earlier: &Declarations,
     name: &Option<Placed>,
     faults: &mut Items<TypeFault>,
 ) -> Result<(), NoMemory>
-    ensures { OnOk result (faults.new ≡ faults.old ++ spec.double_name earlier.now name.now) }
+    ensures { (items : List Item) → earlier.now ≡ map spec.as_declared items → OnOk result (faults.new ≡ faults.old ++ spec.double_name items name.now) }
 {
     if let Some(placed) = name {
-        if is_taken(earlier, &placed.name) {
+        if earlier.variable_of(&placed.name).is_some() {
             faults.push(TypeFault::DoubleName(placed.at))?;
         }
     }
     Ok(())
 }
 
-fn add_double_names(items: &[Item], faults: &mut Items<TypeFault>) -> Result<(), NoMemory>
-    ensures { OnOk result (faults.new ≡ faults.old ++ spec.double_names [] items.now) }
+// Adds the faults of AS names, and the names.
+fn add_double_names(
+    alloc: Global,
+    items: &[Item],
+    names: &mut Declarations,
+    faults: &mut Items<TypeFault>,
+) -> Result<(), NoMemory>
+    requires { names.old ≡ [] }
+    ensures names { OnOk result (names.new ≡ map spec.as_declared items.now) }
+    ensures faults { OnOk result (faults.new ≡ faults.old ++ spec.double_names [] items.now) }
 {
-    for (place, item) in items.iter().enumerate() {
-        add_double_name(&items[..place], &item.name, faults)?;
+    for item in items {
+        add_double_name(names, &item.name, faults)?;
+        add_name(alloc, item, names)?;
     }
     Ok(())
 }
@@ -95,61 +104,134 @@ fn add_condition_fault(
     }
 }
 
-fn is_same(a: &AstExpr, b: &AstExpr) -> bool
-    ensures { result ≡ same.same a.now b.now }
+// With DISTINCT, adds the fault of an order key that is no select item's expression.
+fn add_unselected(
+    alloc: Global,
+    selection: Selection<'_>,
+    distinct: bool,
+    key: &Key,
+    faults: &mut Items<TypeFault>,
+) -> Result<(), NoMemory>
+    requires { OnTrue distinct (selection.texts.now ≡ spec.written selection.items.now) }
+    ensures { OnOk result (faults.new ≡ faults.old ++ spec.not_selected distinct selection.entry.items.now key.now) }
 {
-    same_expr(a, b)
-}
-
-fn is_selected(items: &[Item], expr: &AstExpr) -> bool
-    ensures { result ≡ list_any (λ item. same.same expr.now item.expr) items.now }
-{
-    for item in items {
-        if is_same(expr, &item.expr) {
-            return true;
-        }
+    if !distinct {
+        return Ok(());
     }
-    false
+    if !is_selected(alloc, selection, &key.expr)? {
+        faults.push(TypeFault::KeyNotSelected(key.at))?;
+    }
+    Ok(())
 }
 
 fn add_key_faults(
-    ast: &Ast,
+    setting: Setting<'_>,
+    columns: Columns<'_>,
+    selection: Selection<'_>,
     key: &Key,
-    variables: &Declarations,
-    schema: &Schema,
     faults: &mut Items<TypeFault>,
 ) -> Result<(), NoMemory>
-    ensures { OnOk result (faults.new ≡ faults.old ++ spec.key_faults schema.now variables.now ast.now.distinct ast.now.items key.now) }
+    requires names { columns.names.now ≡ map spec.as_declared columns.items.now }
+    requires same { selection.items.now ≡ columns.items.now }
+    requires texts { OnTrue setting.distinct (selection.texts.now ≡ spec.written selection.items.now) }
+    ensures { OnOk result (faults.new ≡ faults.old ++ spec.key_faults setting.entry.schema.now setting.entry.variables.now setting.entry.distinct columns.entry.items.now key.now) }
 {
-    let items = ast.items.as_slice();
-    match item_of(items, &key.expr) {
+    match item_of(columns, &key.expr) {
         Some(_) => Ok(()),
         None => {
-            add_fault(check(&key.expr, variables, schema).kind, faults)?;
-            if ast.distinct && !is_selected(items, &key.expr) {
-                faults.push(TypeFault::KeyNotSelected(key.at))?;
-            }
-            Ok(())
+            add_fault(
+                check(&key.expr, setting.variables, setting.schema).kind,
+                faults,
+            )?;
+            add_unselected(setting.alloc, selection, setting.distinct, key, faults)
         }
     }
 }
 
 fn add_all_key_faults(
-    ast: &Ast,
-    variables: &Declarations,
-    schema: &Schema,
+    setting: Setting<'_>,
+    columns: Columns<'_>,
+    selection: Selection<'_>,
+    keys: &[Key],
     faults: &mut Items<TypeFault>,
 ) -> Result<(), NoMemory>
-    ensures { OnOk result (faults.new ≡ faults.old ++ flat_map (spec.key_faults schema.now variables.now ast.now.distinct ast.now.items) ast.now.keys) }
+    requires names { columns.names.now ≡ map spec.as_declared columns.items.now }
+    requires same { selection.items.now ≡ columns.items.now }
+    requires texts { OnTrue setting.distinct (selection.texts.now ≡ spec.written selection.items.now) }
+    ensures { OnOk result (faults.new ≡ faults.old ++ flat_map (spec.key_faults setting.entry.schema.now setting.entry.variables.now setting.entry.distinct columns.entry.items.now) keys.now) }
 {
-    for key in ast.keys.as_slice() {
-        add_key_faults(ast, key, variables, schema, faults)?;
+    for key in keys {
+        add_key_faults(setting, columns, selection, key, faults)?;
     }
     Ok(())
 }
 
+// With DISTINCT, adds what is written of the items.
+fn add_written_if(
+    alloc: Global,
+    distinct: bool,
+    items: &[Item],
+    texts: &mut Texts,
+    first: &mut Items<usize>,
+) -> Result<(), NoMemory>
+    requires { texts.old ≡ [] }
+    ensures { OnOk result (OnTrue distinct (texts.new ≡ spec.written items.now)) }
+{
+    if distinct {
+        add_all_written(alloc, items, texts, first)
+    } else {
+        Ok(())
+    }
+}
+
+// Adds the faults of the order keys.
+fn add_order_faults(
+    setting: Setting<'_>,
+    columns: Columns<'_>,
+    keys: &[Key],
+    texts: &mut Texts,
+    first: &mut Items<usize>,
+    faults: &mut Items<TypeFault>,
+) -> Result<(), NoMemory>
+    requires names { columns.names.now ≡ map spec.as_declared columns.items.now }
+    requires texts { texts.old ≡ [] }
+    ensures { OnOk result (faults.new ≡ faults.old ++ flat_map (spec.key_faults setting.entry.schema.now setting.entry.variables.now setting.entry.distinct columns.entry.items.now) keys.now) }
+{
+    let items = columns.items;
+    add_written_if(setting.alloc, setting.distinct, items, texts, first)?;
+    let selection = Selection {
+        items,
+        texts,
+        first: first.as_slice(),
+    };
+    add_all_key_faults(setting, columns, selection, keys, faults)
+}
+
+// Adds the faults that the expressions have, and what items are looked up by.
+fn add_faults_and_index(
+    setting: Setting<'_>,
+    ast: &Ast,
+    names: &mut Declarations,
+    texts: &mut Texts,
+    first: &mut Items<usize>,
+    faults: &mut Items<TypeFault>,
+) -> Result<(), NoMemory>
+    requires names { names.old ≡ [] }
+    requires texts { texts.old ≡ [] }
+    requires distinct { setting.distinct ≡ ast.now.distinct }
+    ensures { OnOk result (faults.new ≡ faults.old ++ spec.expression_faults setting.entry.schema.now setting.entry.variables.now ast.now) }
+{
+    let items = ast.items.as_slice();
+    add_item_faults(items, setting.variables, setting.schema, faults)?;
+    add_double_names(setting.alloc, items, names, faults)?;
+    add_condition_fault(&ast.condition, setting.variables, setting.schema, faults)?;
+    let columns = Columns { items, names };
+    add_order_faults(setting, columns, ast.keys.as_slice(), texts, first, faults)
+}
+
 // Adds the faults that the expressions have.
 fn add_expression_faults(
+    alloc: Global,
     ast: &Ast,
     variables: &Declarations,
     schema: &Schema,
@@ -157,11 +239,16 @@ fn add_expression_faults(
 ) -> Result<(), NoMemory>
     ensures { OnOk result (faults.new ≡ faults.old ++ spec.expression_faults schema.now variables.now ast.now) }
 {
-    let items = ast.items.as_slice();
-    add_item_faults(items, variables, schema, faults)?;
-    add_double_names(items, faults)?;
-    add_condition_fault(&ast.condition, variables, schema, faults)?;
-    add_all_key_faults(ast, variables, schema, faults)
+    let setting = Setting {
+        alloc,
+        variables,
+        schema,
+        distinct: ast.distinct,
+    };
+    let mut names = Declarations::new(alloc);
+    let mut texts = Texts::new(alloc);
+    let mut first = Items::new(alloc);
+    add_faults_and_index(setting, ast, &mut names, &mut texts, &mut first, faults)
 }
 
 fn faults_of(
@@ -175,7 +262,7 @@ fn faults_of(
     let variables = &scope.variables;
     let mut faults = Items::from_slice(alloc, scope.faults.as_slice())?;
     add_disconnected(alloc, scope, &mut faults)?;
-    add_expression_faults(ast, variables, schema, &mut faults)?;
+    add_expression_faults(alloc, ast, variables, schema, &mut faults)?;
     Ok(faults)
 }
 

@@ -1,38 +1,61 @@
 //! Which select item an order key stands for.
-ghost use Rattle.std.specs.Prelude.{◌≡◌, find};
+ghost use Rattle.std.specs.Prelude.{◌≡◌, ◌∷◌, ◌++◌, [], OnOk, find, map};
 ghost use Rattle.std.specs.Option.{option_copied};
 ghost use Rattle.typed_expr.specs.Typed as spec;
 
-use adfs_base::Name;
+use adfs_base::{Name, NoMemory};
+use pattern_scope::declarations::Declarations;
+use pattern_scope::scope::{Declared, name_of};
 use pgql_tree::{AstExpr, Item};
+use sqlite_items::at;
+use std::alloc::Global;
 
-pub fn is_called(name: &Name, item: &Item) -> bool
-    ensures { result ≡ spec.is_called name.now item.now }
+/// The select items, with that for which their AS names stand.
+#[derive(Clone, Copy)]
+pub struct Columns<'a> {
+    pub items: &'a [Item],
+    pub names: &'a Declarations,
+}
+
+/// Adds the AS name of an item, if it has one.
+pub fn add_name(alloc: Global, item: &Item, names: &mut Declarations) -> Result<(), NoMemory>
+    ensures { OnOk result (names.new ≡ names.old ++ spec.as_declared item.now ∷ []) }
 {
-    match &item.name {
-        Some(own) => own.name.text() == name.text(),
-        None => false,
+    let name = match &item.name {
+        Some(placed) => name_of(alloc, Some(&placed.name))?,
+        None => None,
+    };
+    names.push(Declared { name, edge: false })
+}
+
+/// The same of all.
+pub fn add_names(alloc: Global, items: &[Item], names: &mut Declarations) -> Result<(), NoMemory>
+    ensures { OnOk result (names.new ≡ names.old ++ map spec.as_declared items.now) }
+{
+    for item in items {
+        add_name(alloc, item, names)?;
     }
+    Ok(())
 }
 
 // The first item with this AS name.
-fn item_called<'a>(items: &'a [Item], name: &Name) -> Option<&'a Item>
-    ensures { option_copied result ≡ find (spec.is_called name.now) items.now }
+fn item_called<'a>(columns: Columns<'a>, name: &Name) -> Option<&'a Item>
+    requires { columns.names.now ≡ map spec.as_declared columns.items.now }
+    ensures { option_copied result ≡ find (spec.is_called name.now) columns.entry.items.now }
 {
-    for item in items {
-        if is_called(name, item) {
-            return Some(item);
-        }
+    match columns.names.variable_of(name) {
+        Some((place, _)) => at(columns.items, place),
+        None => None,
     }
-    None
 }
 
 /// The item that an order key stands for, where it is an AS name alone.
-pub fn item_of<'a>(items: &'a [Item], expr: &AstExpr) -> Option<&'a Item>
-    ensures { option_copied result ≡ spec.item_of items.now expr.now }
+pub fn item_of<'a>(columns: Columns<'a>, expr: &AstExpr) -> Option<&'a Item>
+    requires { columns.names.now ≡ map spec.as_declared columns.items.now }
+    ensures { option_copied result ≡ spec.item_of columns.entry.items.now expr.now }
 {
     match expr {
-        AstExpr::Name { name, .. } => item_called(items, name),
+        AstExpr::Name { name, .. } => item_called(columns, name),
         AstExpr::Int { .. } => None,
         AstExpr::Text { .. } => None,
         AstExpr::Date { .. } => None,

@@ -3,13 +3,13 @@ ghost use Rattle.std.specs.Prelude.{◌≡◌};
 ghost use Rattle.graph_tables.specs.Properties.{kind_eq};
 ghost use Rattle.typed_expr.specs.Faults as faults;
 ghost use Rattle.typed_expr.specs.Kinds as spec;
-ghost use Rattle.typed_expr.specs.Names.{variable_of};
+ghost use Rattle.pattern_scope.specs.Names.{variable_of};
 ghost use Rattle.value_text.specs.Dates.{date_cell};
 
-use crate::declarations::Declarations;
-use crate::fault::TypeFault;
 use adfs_base::{Kind, Name};
 use graph_tables::Schema;
+use pattern_scope::declarations::Declarations;
+use pattern_scope::fault::TypeFault;
 use pgql_tree::{AstExpr, Op};
 use sqlite_items::Items;
 use value_text::read_date;

@@ -1,20 +1,21 @@
 //! What expressions mean, once it is known what their names stand for.
-ghost use Rattle.std.specs.Prelude.{◌≡◌, ◌++◌, ◌∷◌, [], IfOk, OnOk};
+ghost use Rattle.std.specs.Prelude.{◌≡◌, ◌++◌, ◌∷◌, [], IfOk, Ok, OnOk};
 ghost use Rattle.std.specs.List.{position_or_len};
 ghost use Rattle.value_text.specs.Dates.{date_cell};
 ghost use Rattle.value_text.specs.Texts.{number_of};
 ghost use Rattle.typed_expr.specs.Meaning as spec;
-ghost use Rattle.typed_expr.specs.Names.{variable_of};
+ghost use Rattle.pattern_scope.specs.Names.{variable_of};
 ghost use Rattle.typed_expr.specs.Uses as uses;
+ghost use Rattle.typed_query.specs.declared.expr.Expr.{Expr};
 ghost use Rattle.typed_query.specs.declared.expr.Expr.TheVariants as e;
 
-use crate::declarations::Declarations;
 use crate::expr::Expr;
 use crate::query::{Capture, What};
-use crate::scope::short;
 use crate::uses::{property_use, same_use, use_of};
 use adfs_base::{Name, NoMemory, Value};
 use graph_tables::Schema;
+use pattern_scope::declarations::Declarations;
+use pattern_scope::scope::short;
 use pgql_tree::{AstExpr, Op};
 use sqlite_items::{Boxed, Items};
 use std::alloc::Global;
@@ -115,6 +116,21 @@ fn binary(alloc: Global, op: Op, left: Expr, right: Expr) -> Result<Expr, NoMemo
     Ok(Expr::Binary(op, left, Boxed::new(alloc, right)?))
 }
 
+// An operator between its left side and what is found to be its right one.
+fn with_right(
+    alloc: Global,
+    op: Op,
+    left: Expr,
+    right: Result<Expr, NoMemory>,
+) -> Result<Expr, NoMemory>
+    ensures { IfOk result (λ found. (side : Expr) × (right ≡ Ok side) × (found ≡ e.Binary op left side)) }
+{
+    match right {
+        Ok(right) => binary(alloc, op, left, right),
+        Err(_) => Err(NoMemory),
+    }
+}
+
 /// What an expression means.
 pub fn meant(expr: &AstExpr, scene: Scene<'_>) -> Result<Expr, NoMemory>
     ensures { IfOk result (λ found. found ≡ spec.meant scene.entry.schema.now scene.entry.variables.now scene.entry.captures.now scene.entry.texts.now expr.now) }
@@ -146,8 +162,8 @@ pub fn meant(expr: &AstExpr, scene: Scene<'_>) -> Result<Expr, NoMemory>
             ..
         } => {
             let left = meant(left.get(), scene)?;
-            let right = meant(right.get(), scene)?;
-            binary(scene.alloc, *op, left, right)
+            let right = meant(right.get(), scene);
+            with_right(scene.alloc, *op, left, right)
         }
     }
 }

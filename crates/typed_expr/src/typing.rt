@@ -1,32 +1,22 @@
 //! What queries mean.
 ghost use Rattle.std.specs.Prelude.{All, ◌≡◌, ◌<◌, ◌+◌, ◌-◌, ◌^◌, IfOk, None, Ok, length};
 ghost use Rattle.value_text.specs.Texts.{Kept};
+ghost use Rattle.typed_expr.specs.Captured.{HaveKinds};
 ghost use Rattle.typed_expr.specs.Typed as spec;
 ghost use Rattle.typed_query.specs.Parts.{HasValidConstants};
 ghost use Rattle.typed_query.specs.WellFormed.{IsWellFormed, expressions};
 
 use crate::build::query_of;
-use crate::fault::TypeFault;
 use crate::faults::first_fault;
 use crate::literals::add_all_literals;
 use crate::query::Query;
-use crate::scope::{Scope, scope_of};
 use adfs_base::NoMemory;
 use graph_tables::Schema;
+use pattern_scope::fault::TypeFault;
+use pattern_scope::scope::{Scope, scope_of};
 use pgql_tree::Ast;
 use std::alloc::Global;
 use value_text::Texts;
-
-impl From<NoMemory> for TypeFault {
-    ghost use Rattle.std.specs.Prelude.{◌≡◌};
-    ghost use Rattle.typed_expr.specs.declared.fault.TypeFault.TheVariants as fault;
-
-    ghost from_gives = { λ _ e. e ≡ fault.NoMemory };
-
-    fn from(_: NoMemory) -> TypeFault {
-        TypeFault::NoMemory
-    }
-}
 
 // The query that a tree without faults means, with the texts of its literals added to `texts`.
 fn meaning_of(
@@ -67,7 +57,8 @@ fn typed_in(
 /// The query that a tree means, with the texts of its literals added to `texts`.
 ///
 /// The query is well formed (`IsWellFormed`) where the tree has a path, as each tree of the parser has. Its
-/// constants are valid under the texts, so that `value` may take each of its expressions.
+/// constants are valid under the texts, so that `value` may take each of its expressions. Each capture of a property
+/// has the kind that the schema gives that property (`HaveKinds`).
 ///
 /// # Errors
 ///
@@ -83,6 +74,7 @@ pub fn type_query(
     ensures exact { spec.Gives texts.old texts.new result (spec.typed schema.now texts.old ast.now) }
     ensures well_formed { 0 < length ast.now.paths → IfOk result IsWellFormed }
     ensures valid { IfOk result (λ query. All (HasValidConstants texts.new) (expressions query)) }
+    ensures kinds { IfOk result (HaveKinds schema.now) }
 {
     let scope = scope_of(alloc, ast.paths.as_slice())?;
     typed_in(alloc, ast, &scope, schema, texts)

@@ -1,15 +1,15 @@
 //! What expressions use of variables.
 ghost use Rattle.std.specs.Prelude.{◌≡◌, OnOk, IfOk, [], fold};
 ghost use Rattle.std.specs.List.{cons_option, list_any};
-ghost use Rattle.typed_expr.specs.Names as names;
+ghost use Rattle.pattern_scope.specs.Names as names;
 ghost use Rattle.typed_expr.specs.Uses as spec;
 
-use crate::declarations::Declarations;
 use crate::kinds::property_in;
 use crate::query::{Capture, What};
-use crate::scope::short;
 use adfs_base::{Name, NoMemory};
 use graph_tables::Schema;
+use pattern_scope::declarations::Declarations;
+use pattern_scope::scope::short;
 use pgql_tree::AstExpr;
 use sqlite_items::Items;
 

@@ -35,6 +35,7 @@ use Rattle.world_core.specs.Sound.{Sound, AreMessages, queued, homes_in}
 use Rattle.world_core.specs.Step.{shared_guard, own_part, shared_part, posted_test, popped_as, pushed_from, restored_from, restored_rest}
 use Rattle.world_core.specs.World.{World}
 use Rattle.world_core.proofs.Happens.{After, StaysPut, put-restored, keeps-of}
+use Rattle.world_core.proofs.Marks.{and-true}
 use Rattle.world_core.proofs.Moves.{Moves}
 use Rattle.world_core.proofs.Moving.{Keeps, stores-moves}
 use Rattle.world_core.proofs.Parts.{machine-in, sound-part}
@@ -47,10 +48,6 @@ pub record InboxIs (s : Shared) (n k : ℕ) (ms : List Message) : Type 0 where
   pub stage : k < s.shape.stages
   pub at : slice_get s.inboxes (inbox_place s n k) ≡ Some ms
 
-and-true : (a b : Bool) → (a && b) ≡ true → (a ≡ true) × (b ≡ true)
-and-true true b e = (refl, e)
-and-true false b e = cc
-
 pub inbox-is : (s : Shared) (n k : ℕ) (ms : List Message) → inbox_at s n k ≡ Some ms → InboxIs s n k ms
 inbox-is s n k ms e = go (nat_lt 0 k && nat_lt k s.shape.stages) refl
   where
@@ -61,21 +58,13 @@ inbox-is s n k ms e = go (nat_lt 0 k && nat_lt k s.shape.stages) refl
     go false t = absurd (none-some ms (sym (ap (λ b. cond b (slice_get s.inboxes (inbox_place s n k)) None) t) ∙ e))
 
 -- a message of the changed inboxes stood there before, or in the inbox that changed
-inbox-of_set : (s : Shared) (a j n k : ℕ) (old new ms : List Message) (i : ℕ) (b : Message) → inbox_at s a j ≡ Some old →
-    inbox_at (record s { inboxes = slice_set s.inboxes (inbox_place s a j) new }) n k ≡ Some ms → slice_get ms i ≡ Some b →
-    ((n ≡ a) × (k ≡ j) × (slice_get new i ≡ Some b)) ⊎ (inbox_at s n k ≡ Some ms)
-inbox-of_set s a j n k old new ms i b was is at =
-    let here = inbox-is s a j old was in
-    let there = inbox-is (record s { inboxes = slice_set s.inboxes (inbox_place s a j) new }) n k ms is in
-    elim (get-of_set s.inboxes (inbox_place s a j) (inbox_place s n k) new ms there.at) [
-      | inl p ↦ (let place = same_from_place n k a j s.shape.stages there.stage here.stage p.0 in inl (place.0, place.1, ap (λ xs. slice_get xs i) (sym p.1) ∙ at))
-      | inr q ↦ inr (back (nat_lt 0 k && nat_lt k s.shape.stages) refl is q)
-    ]
-  where
-    back : (t : Bool) → (nat_lt 0 k && nat_lt k s.shape.stages) ≡ t → cond (nat_lt 0 k && nat_lt k s.shape.stages) (slice_get (slice_set s.inboxes (inbox_place s a j) new) (inbox_place s n k)) None ≡ Some ms →
-        slice_get s.inboxes (inbox_place s n k) ≡ Some ms → inbox_at s n k ≡ Some ms
-    back true e is q = ap (λ x. cond x (slice_get s.inboxes (inbox_place s n k)) None) e ∙ q
-    back false e is q = absurd (none-some ms (sym (ap (λ x. cond x (slice_get (slice_set s.inboxes (inbox_place s a j) new) (inbox_place s n k)) None) e) ∙ is))
+inbox-of_set : (s : Shared) (a j n k : ℕ) (new ms : List Message) (i : ℕ) (b : Message) → j < s.shape.stages → k < s.shape.stages →
+    slice_get (slice_set s.inboxes (inbox_place s a j) new) (inbox_place s n k) ≡ Some ms → slice_get ms i ≡ Some b →
+    ((n ≡ a) × (k ≡ j) × (slice_get new i ≡ Some b)) ⊎ (slice_get s.inboxes (inbox_place s n k) ≡ Some ms)
+inbox-of_set s a j n k new ms i b here there is at = elim (get-of_set s.inboxes (inbox_place s a j) (inbox_place s n k) new ms is) [
+  | inl p ↦ (let place = same_from_place n k a j s.shape.stages there here p.0 in inl (place.0, place.1, ap (λ xs. slice_get xs i) (sym p.1) ∙ at))
+  | inr q ↦ inr q
+]
 
 -- ---- push
 pub space-in : (x : Extents) (o : Option (List Message)) → has_space x o ≡ true → (ms : List Message) × (o ≡ Some ms)
@@ -94,7 +83,7 @@ push-for w i v b ms sound at hand there =
     let gone : (c : Census) → count c (freed v) + of_message c.posted b ≡ count c v =
     λ c. ap (λ e. count c (freed v) + e) (sym (ap (of_hand c v.machine) hand)) ∙ freed-count c v in
     stores-moves w i v (freed v) w.shared.pools (slice_set w.shared.inboxes (inbox_place w.shared b.to b.stage) new) sound at
-    (keeps-of v (freed v) (record { place = record { number = refl; machine = refl; shape = refl }; enrolled = refl }) (freed-keeps v worker))
+    (keeps-of w i v sound at (freed v) (record { place = record { number = refl; machine = refl; shape = refl }; enrolled = refl; marks = refl }) (freed-keeps v worker))
     refl (length-set w.shared.inboxes (inbox_place w.shared b.to b.stage) new)
     (λ m k n. let c = gone (credits_of m k n) in omega arith)
     (λ m k n unit.
@@ -107,12 +96,12 @@ push-for w i v b ms sound at hand there =
     let set = total-set (homes_in home) w.shared.inboxes (inbox_place w.shared b.to b.stage) ms new inbox.at in
     let more = total-push (λ (x : Message). one (eqb x.items.home home)) ms b in
     omega arith)
-    (λ n k j xs x inside here. elim (inbox-of_set w.shared b.to b.stage n k ms new xs j x there inside here) [
+    (λ n k j xs x low inside here. elim (inbox-of_set w.shared b.to b.stage n k new xs j x inbox.stage low inside here) [
       | inl p ↦ (elim (get-of_push ms b x j p.2) [
         | inl same ↦ (subst (λ y. IsMessageOf w.shared.shape y) (sym same) is, ap (λ (y : Message). y.to) same ∙ sym p.0, ap (λ (y : Message). y.stage) same ∙ sym p.1)
-        | inr old ↦ (let was = sound.messages b.to b.stage j ms x there old in (was.0, was.1 ∙ sym p.0, was.2 ∙ sym p.1))
+        | inr old ↦ (let was = sound.messages b.to b.stage j ms x inbox.stage inbox.at old in (was.0, was.1 ∙ sym p.0, was.2 ∙ sym p.1))
       ])
-      | inr old ↦ sound.messages n k j xs x old here
+      | inr old ↦ sound.messages n k j xs x low old here
     ])
     (sound.claimed i v at)
 
@@ -141,12 +130,12 @@ pop-for : (w : World) (i k : ℕ) (v : State) (b : Message) (bs : List Message) 
 pop-for w i k v b bs sound at guards there =
     let worker = sound.own i v at in
     let f = pop-facts v k guards in
-    let is = sound.messages v.machine k 0 (b ∷ bs) b there refl in
-    let shape = shape-of w i v sound at in
     let inbox = inbox-is w.shared v.machine k (b ∷ bs) there in
+    let is = sound.messages v.machine k 0 (b ∷ bs) b inbox.stage inbox.at refl in
+    let shape = shape-of w i v sound at in
     let more : (c : Census) → count c (popped b v) ≡ count c v + of_message c.popped b = λ c. popped-count c v b f.0 in
     stores-moves w i v (popped b v) w.shared.pools (slice_set w.shared.inboxes (inbox_place w.shared v.machine k) bs) sound at
-    (keeps-of v (popped b v) (record { place = record { number = refl; machine = refl; shape = refl }; enrolled = refl })
+    (keeps-of w i v sound at (popped b v) (record { place = record { number = refl; machine = refl; shape = refl }; enrolled = refl; marks = refl })
     (popped-keeps v b worker (subst (λ j. own_guard (Pop i j) v ≡ None) (sym is.2) guards) is.1 (subst (λ x. IsMessageOf x b) (sym shape) is.0)))
     refl (length-set w.shared.inboxes (inbox_place w.shared v.machine k) bs)
     (λ m j n. let c = more (credits_of m j n) in omega arith)
@@ -158,9 +147,9 @@ pop-for w i k v b bs sound at guards there =
     let c = more (buffers_of home) in
     let set = total-set (homes_in home) w.shared.inboxes (inbox_place w.shared v.machine k) (b ∷ bs) bs inbox.at in
     omega arith)
-    (λ n j p xs x inside here. elim (inbox-of_set w.shared v.machine k n j (b ∷ bs) bs xs p x there inside here) [
-      | inl q ↦ (let was = sound.messages v.machine k (suc p) (b ∷ bs) x there q.2 in (was.0, was.1 ∙ sym q.0, was.2 ∙ sym q.1))
-      | inr old ↦ sound.messages n j p xs x old here
+    (λ n j p xs x low inside here. elim (inbox-of_set w.shared v.machine k n j bs xs p x inbox.stage low inside here) [
+      | inl q ↦ (let was = sound.messages v.machine k (suc p) (b ∷ bs) x inbox.stage inbox.at q.2 in (was.0, was.1 ∙ sym q.0, was.2 ∙ sym q.1))
+      | inr old ↦ sound.messages n j p xs x low old here
     ])
     (sound.claimed i v at)
 
@@ -188,7 +177,7 @@ restore-for w i v frame frames b next sound at guards ends =
     let within : b.items.home < length w.shared.pools = omega arith in
     let same : (m k n : ℕ) → one (is_word m k n b.from b.stage b.to) ≡ one (is_word m k n b.from b.stage v.machine) = λ m k n. ap (λ x. one (is_word m k n b.from b.stage x)) here in
     stores-moves w i v (restored v) (slice_set w.shared.pools b.items.home (pool_at w.shared b.items.home + 1)) w.shared.inboxes sound at
-    (keeps-of v (restored v) (put-restored v v.stack) (restored-keeps v worker guards))
+    (keeps-of w i v sound at (restored v) (put-restored v v.stack) (restored-keeps v worker guards))
     (length-set w.shared.pools b.items.home (pool_at w.shared b.items.home + 1)) refl
     (λ m k n. let c = restored-count (credits_of m k n) v frame frames b next ends in let d = same m k n in omega arith)
     (λ m k n unit. let c = restored-count (flying_of m k n) v frame frames b next ends in omega arith)

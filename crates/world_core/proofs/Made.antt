@@ -1,5 +1,5 @@
 -- What the code of a step leaves.
-use Rattle.std.proofs.Common.{◌≡◌, ℕ, List, get_or, Option, Some, None, Result, Ok, Err, refl, sym, ap, subst, ◌∙◌, set}
+use Rattle.std.proofs.Common.{◌≡◌, ℕ, ◌<◌, ◌≤◌, List, get_or, Option, Some, None, Result, Ok, Err, refl, sym, ap, subst, ◌∙◌, set, arith}
 use Rattle.std.specs.Prelude.{slice_get, slice_set, OnOk, OnErr}
 use Rattle.std.proofs.lemmas.List.{set-get_or}
 use Rattle.std.proofs.lemmas.Option.{get_or_from_slice_get}
@@ -12,13 +12,15 @@ use Rattle.dfs_worker.specs.Own.{AddsRow}
 use Rattle.dfs_worker.specs.State.{State}
 use Rattle.world_core.specs.Sound.{Sound}
 use Rattle.world_core.specs.Step.{Step, worker_of, guard_of, own_part, shared_part, happens}
-use Rattle.world_core.specs.Stepped.{AddsARow, IsStepped, stepped_of}
+use Rattle.world_core.specs.Stepped.{AddsARow, IsStepped, IfDone, stepped_of}
 use Rattle.world_core.specs.World.{World, world_of, Fits}
 use Rattle.world_core.proofs.Parts.{Enabled, enabled-facts}
 use Rattle.match_context.specs.declared.context.Context.{Context}
 use Rattle.world_core.specs.Owed.{owed}
-use Rattle.world_core.proofs.Owes.{step-owes}
-use Rattle.world_core.proofs.Steps.{happens-is, step-sound, step-fits}
+use Rattle.world_core.proofs.Weighs.{step-owes}
+use Rattle.world_core.specs.Work.{work_left}
+use Rattle.world_core.proofs.Steps.{happens-is, step-sound, step-fits, step-closes}
+use Rattle.world_core.proofs.Works.{step-works}
 
 -- the worker that the code reads is the event's
 pub enabled-read : (w : World) (e : Event) (i : ℕ) (v : State) → guard_of w e ≡ None → i ≡ worker_of e → v ≡ get_or w.workers i v → Enabled w e v
@@ -63,10 +65,20 @@ pub record Leaves (tree : Tree) (w w' : World) (e : Event) (r : Result (Unit {0}
   pub sound : Sound w'
   pub fits : Fits tree w'.shared
   pub owes : (row : Context → ℕ) → owed row tree w ≡ owed row tree w'
+  pub work : IfDone (stepped_of r) (work_left tree w' < work_left tree w)
+  pub closes : w.shared.closed ≤ w'.shared.closed
 
 stepped-owes : (row : Context → ℕ) (tree : Tree) (w w' : World) (e : Event) (r : Result (Unit {0}) base.NoMemory) → IsTree tree → Fits tree w.shared → Sound w → IsStepped tree w e (stepped_of r) w' → owed row tree w ≡ owed row tree w'
 stepped-owes row tree w w' e (Ok u) law fits sound step = step-owes row tree w w' e law fits sound step
 stepped-owes row tree w w' e (Err x) law fits sound step = ap (owed row tree) (sym step.1)
+
+stepped-works : (tree : Tree) (w w' : World) (e : Event) (r : Result (Unit {0}) base.NoMemory) → IsTree tree → Fits tree w.shared → Sound w → IsStepped tree w e (stepped_of r) w' → IfDone (stepped_of r) (work_left tree w' < work_left tree w)
+stepped-works tree w w' e (Ok u) law fits sound step = step-works tree w w' e law fits sound step
+stepped-works tree w w' e (Err x) law fits sound step = tt
+
+stepped-closes : (tree : Tree) (w w' : World) (e : Event) (r : Result (Unit {0}) base.NoMemory) → IsTree tree → Fits tree w.shared → Sound w → IsStepped tree w e (stepped_of r) w' → w.shared.closed ≤ w'.shared.closed
+stepped-closes tree w w' e (Ok u) law fits sound step = step-closes tree w w' e law fits sound step
+stepped-closes tree w w' e (Err x) law fits sound step = let same = ap (λ (y : World). y.shared.closed) step.1 in omega arith
 
 pub leaves : (tree : Tree) (w : World) (e : Event) (i : ℕ) (v v' : State) (h : Shared) (r : Result (Unit {0}) base.NoMemory) → IsTree tree → Fits tree w.shared → Sound w →
     guard_of w e ≡ None → i ≡ worker_of e → v ≡ get_or w.workers i v → IsMade tree w e v r v' h → Leaves tree w (world_of (slice_set w.workers i v') h) e r
@@ -78,4 +90,6 @@ leaves tree w e i v v' h r law fits sound g same read made =
       sound = stepped-sound tree w (world_of (slice_set w.workers i v') h) e r law fits sound step;
       fits = stepped-fits tree w (world_of (slice_set w.workers i v') h) e r law fits sound step;
       owes = λ row. stepped-owes row tree w (world_of (slice_set w.workers i v') h) e r law fits sound step;
+      work = stepped-works tree w (world_of (slice_set w.workers i v') h) e r law fits sound step;
+      closes = stepped-closes tree w (world_of (slice_set w.workers i v') h) e r law fits sound step;
     }

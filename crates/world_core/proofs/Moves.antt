@@ -5,13 +5,15 @@ use Rattle.std.proofs.lemmas.List.{length-set}
 use Rattle.adfs_base.specs.Shape.{limit_of, pool_of}
 use Rattle.match_context.specs.Bags.{total}
 use Rattle.match_context.proofs.Totals.{total-set, get-of_set}
-use Rattle.fabric.specs.Shared.{Shared, IsShared, IsUnit, machine_of, used_at, flying_at, roots_at, cursor_at, enrolled_at, pool_at}
+use Rattle.adfs_base.specs.declared.step_answers.Word.{Word}
+use Rattle.fabric.specs.Shared.{Shared, IsShared, IsUnit, IsWordOf, machine_of, used_at, flying_at, roots_at, cursor_at, enrolled_at, pool_at, word_at}
 use Rattle.dfs_worker.specs.Census.{count, credits_of, flying_of, buffers_of}
 use Rattle.dfs_worker.specs.Sound.{IsWorker, WithinRoots}
 use Rattle.dfs_worker.specs.State.{State}
 use Rattle.dfs_worker.proofs.Roots.{roots-more}
-use Rattle.world_core.specs.Sound.{Sound, IsPlaced, AreMessages, queued, homes_in, enrolled_of}
+use Rattle.world_core.specs.Sound.{Sound, IsPlaced, AreMessages, AreClosed, AreMarks, queued, homes_in, enrolled_of}
 use Rattle.world_core.specs.World.{World}
+use Rattle.world_core.proofs.Marks.{marks-stay}
 use Rattle.world_core.proofs.Parts.{machine-in}
 
 -- the worker keeps its place
@@ -40,6 +42,10 @@ pub record Moves (w : World) (v v' : State) (h : Shared) : Type 0 where
   pub messages : AreMessages h
   pub cursors : (m : ℕ) → m < w.shared.shape.machines → (cursor_at w.shared m ≤ cursor_at h m) × (cursor_at h m ≤ roots_at h m)
   pub claimed : WithinRoots (cursor_at h v.machine) v'.stack
+  pub closed : AreClosed h
+  pub closes : w.shared.closed ≤ h.closed
+  pub zeros : h.closed ≡ w.shared.closed → (word : Word) → IsWordOf w.shared w.shared.closed word → word_at w.shared word ≡ 0 → word_at h word ≡ 0
+  pub marks : AreMarks h v'.marks
 
 moved-placed : (s h : Shared) (i : ℕ) (v : State) → h.shape ≡ s.shape → IsPlaced s i v → IsPlaced h i v
 moved-placed s h i v shape p =
@@ -91,6 +97,11 @@ moved-sound w i v v' h sound at moves =
       claimed = λ j u e. elim (get-of_set w.workers i j v' u e) [
         | inl new ↦ claimed-new u new.1
         | inr old ↦ roots-more (cursor_at w.shared u.machine) (cursor_at h u.machine) u.stack (sound.claimed j u old) (moves.cursors u.machine (machine-in w j u sound old)).0
+      ];
+      closed = moves.closed;
+      marks = λ j u e. elim (get-of_set w.workers i j v' u e) [
+        | inl new ↦ subst (λ (x : State). AreMarks h x.marks) (sym new.1) moves.marks
+        | inr old ↦ marks-stay w.shared h u (sound.placed j u old).shape (sound.own j u old) moves.closes moves.zeros (sound.marks j u old)
       ];
     }
   where

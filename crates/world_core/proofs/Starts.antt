@@ -17,8 +17,9 @@ use Rattle.fabric.proofs.Starts.{start-shared, alike}
 use Rattle.dfs_worker.specs.Census.{Census, count, of_slot, one, credits_of, flying_of, buffers_of}
 use Rattle.dfs_worker.specs.Sound.{IsWorker, WithinRoots}
 use Rattle.dfs_worker.specs.State.{State, fresh, no_slots}
-use Rattle.world_core.specs.Sound.{Sound, IsPlaced, enrolled_of, queued, homes_in}
+use Rattle.world_core.specs.Sound.{Sound, AreMarks, IsPlaced, enrolled_of, queued, homes_in}
 use Rattle.world_core.specs.World.{World, world_of, Fits, roots_of, fresh_workers, start_world}
+use Rattle.world_core.proofs.Marks.{none-marked}
 use Rattle.world_core.proofs.Words.{place-within}
 
 -- ---- lists
@@ -28,7 +29,7 @@ at-end [] y u (suc j) e = inr e
 at-end (x ∷ xs) y u zero e = inr e
 at-end (x ∷ xs) y u (suc j) e = elim (at-end xs y u j e) [ inl p ↦ inl (ap suc p.0, p.1) | inr q ↦ inr q ]
 
-total-alike : {A : Type 0} (f : A → ℕ) (x : A) (n : ℕ) → f x ≡ 0 → total f (replicate n x) ≡ 0
+pub total-alike : {A : Type 0} (f : A → ℕ) (x : A) (n : ℕ) → f x ≡ 0 → total f (replicate n x) ≡ 0
 total-alike f x zero e = refl
 total-alike f x (suc n) e = let rest = total-alike f x n e in omega (arith, e, rest)
 
@@ -37,7 +38,7 @@ pub roots-length : (tree : Tree) (n : ℕ) → length (roots_of tree n) ≡ n
 roots-length tree zero = refl
 roots-length tree (suc n) = length_push (roots_of tree n) (tree.roots n) ∙ (let e = roots-length tree n in omega arith)
 
-roots-at : (tree : Tree) (n m : ℕ) → m < n → slice_get (roots_of tree n) m ≡ Some (tree.roots m)
+pub roots-at : (tree : Tree) (n m : ℕ) → m < n → slice_get (roots_of tree n) m ≡ Some (tree.roots m)
 roots-at tree zero m h = absurd (omega arith)
 roots-at tree (suc n) m h =
     let size = roots-length tree n in
@@ -144,21 +145,16 @@ fresh-worker shape i is within =
     none-at (suc n) zero message e = none-some message e
     none-at (suc n) (suc at) message e = none-at n at message e
 
-zero-at : (n i : ℕ) → get_or {A = ℕ} (replicate n 0) i 0 ≡ zero
+pub zero-at : (n i : ℕ) → get_or {A = ℕ} (replicate n 0) i 0 ≡ zero
 zero-at zero i = refl
 zero-at (suc n) zero = refl
 zero-at (suc n) (suc i) = zero-at n i
 
 -- an inbox at the start is empty
-empty-inbox : (shape : Extents) (roots : List ℕ) (machine stage i : ℕ) (messages : List Message) (message : Message) → inbox_at (start shape roots) machine stage ≡ Some messages → slice_get messages i ≡ Some message → ⊥
-empty-inbox shape roots machine stage i messages message is at = go (nat_lt 0 stage && nat_lt stage shape.stages) refl
-  where
-    go : (b : Bool) → (nat_lt 0 stage && nat_lt stage shape.stages) ≡ b → ⊥
-    go false e = none-some messages (sym (ap (λ b. cond b (slice_get (replicate (shape.machines * shape.stages) []) (machine * shape.stages + stage)) None) e) ∙ is)
-    go true e =
-        let there = sym (ap (λ b. cond b (slice_get (replicate (shape.machines * shape.stages) []) (machine * shape.stages + stage)) None) e) ∙ is in
-        let none = alike (shape.machines * shape.stages) [] (machine * shape.stages + stage) messages there in
-        none-some message (sym (ap (λ ms. slice_get ms i) none) ∙ at)
+empty-inbox : (shape : Extents) (place i : ℕ) (messages : List Message) (message : Message) → slice_get (replicate (shape.machines * shape.stages) []) place ≡ Some messages → slice_get messages i ≡ Some message → ⊥
+empty-inbox shape place i messages message there at =
+    let none = alike (shape.machines * shape.stages) [] place messages there in
+    none-some message (sym (ap (λ ms. slice_get ms i) none) ∙ at)
 
 pub start-sound : (shape : Extents) (tree : Tree) → IsShape shape → Sound (start_world shape tree)
 start-sound shape tree is =
@@ -195,8 +191,11 @@ start-sound shape tree is =
           let last = last-row m shape.machines shape.workers low in
           omega arith;
       retired = λ i v at left. absurd (let e = ap (λ u. u.enrolled) (workers-at shape (shape.machines * shape.workers) i v at) in cc);
-      messages = λ machine stage i messages message inside at. absurd (empty-inbox shape (roots_of tree shape.machines) machine stage i messages message inside at);
+      messages = λ machine stage i messages message low inside at. absurd (empty-inbox shape (machine * shape.stages + stage) i messages message inside at);
       cursors = λ m low. let z = zero-at shape.machines m in omega arith;
+      closed = record { enrolled = λ some. absurd (omega arith); used = λ m k n unit low. absurd (omega arith) };
+      marks = λ i v at. subst (λ (u : State). AreMarks (start shape (roots_of tree shape.machines)) u.marks) (sym (workers-at shape (shape.machines * shape.workers) i v at))
+          (none-marked (start shape (roots_of tree shape.machines)) shape.machines shape.stages);
       claimed = λ i v at. subst (λ (u : State). WithinRoots (get_or (replicate shape.machines 0) u.machine 0) u.stack) (sym (workers-at shape (shape.machines * shape.workers) i v at)) tt;
     }
   where

@@ -1,5 +1,5 @@
 -- Every step leaves a sound world sound.
-use Rattle.std.proofs.Common.{◌≡◌, ℕ, ◌<◌, List, Option, Some, None, refl, sym, ap, subst, ◌∙◌}
+use Rattle.std.proofs.Common.{◌≡◌, ℕ, ◌<◌, ◌≤◌, List, Option, Some, None, refl, sym, ap, subst, ◌∙◌}
 use Rattle.std.specs.Prelude.{slice_get, slice_set, slice_index}
 use Rattle.match_context.specs.Tree.{Tree, IsTree}
 use Rattle.dfs_worker.specs.declared.event.Event.{Event}
@@ -34,7 +34,7 @@ event-moves tree w (Pop i k) v law fits sound on = pop-happens tree w i k v soun
 event-moves tree w (Pick i) v law fits sound on = pick-happens tree w i v sound on.at on.own on.shared
 event-moves tree w (Restore i) v law fits sound on = restore-happens tree w i v sound on.at on.own
 event-moves tree w (Discharge i) v law fits sound on = discharge-happens tree w i v sound on.at on.own
-event-moves tree w (Mark i a b) v law fits sound on = mark-happens tree w i a b v sound on.at
+event-moves tree w (Mark i a b) v law fits sound on = mark-happens tree w i a b v sound on.at on.shared
 event-moves tree w (Close i) v law fits sound on = close-happens tree w i v sound on.at on.shared
 
 pub happens-is : (tree : Tree) (w : World) (e : Event) (v : State) → slice_get w.workers (worker_of e) ≡ Some v →
@@ -56,3 +56,8 @@ step-fits tree w w' e law fits sound step =
       machines = ap (λ s. s.machines) moves.shape ∙ fits.machines;
       same_roots = λ m low. ap (λ xs. slice_index xs m) moves.roots ∙ fits.same_roots m (subst (λ x. m < x.machines) moves.shape low);
     })
+
+pub step-closes : (tree : Tree) (w w' : World) (e : Event) → IsTree tree → Fits tree w.shared → Sound w → Step tree w e w' → w.shared.closed ≤ w'.shared.closed
+step-closes tree w w' e law fits sound step =
+    let x = enabled-facts w e step.enabled in
+    subst (λ (u : World). w.shared.closed ≤ u.shared.closed) (sym (step.change ∙ happens-is tree w e x.0 x.1.at)) (event-moves tree w e x.0 law fits sound x.1).closes

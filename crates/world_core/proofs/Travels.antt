@@ -39,6 +39,7 @@ use Rattle.world_core.specs.World.{World}
 use Rattle.world_core.proofs.Bodies.{open-for, word-self}
 use Rattle.world_core.proofs.Happens.{After, StaysPut, put-self, put-charged, put-fetched, put-posted, put-picked, put-restored, keeps-of}
 use Rattle.world_core.proofs.Moves.{Moves}
+use Rattle.world_core.proofs.Past.{child-later}
 use Rattle.world_core.proofs.Moving.{Keeps, words-moves, stores-moves}
 use Rattle.world_core.proofs.Parts.{machine-in, sound-part}
 use Rattle.world_core.proofs.Words.{word-tells, word-raised, word-lowered, number-raised, number-lowered}
@@ -83,19 +84,24 @@ limit-raised s a j q m k n low at_most = go (word-tells m k n a j q)
         rw y.0 (omega arith)
     go (inr z) = rw z.0 (omega arith)
 
+-- a word of an earlier stage is another one
+other-word : (m j q k a n closed : ℕ) → j ≤ closed → closed < k → one (is_word m j q a k n) ≡ 0
+other-word m j q k a n closed early later = elim (word-tells m j q a k n) [ inl y ↦ absurd (let e = y.2 in omega arith) | inr z ↦ rw z.0 refl ]
+
 charge-for : (w : World) (i k n : ℕ) (v : State) → Sound w → slice_get w.workers i ≡ Some v → own_guard (Charge i) v ≡ None → waiting v.stack ≡ Some (k, n) → IsUnit w.shared v.machine k n →
-    can_charge w.shared v.machine k n ≡ true → Moves w v (charged v) (after_charge w.shared v.machine k n)
-charge-for w i k n v sound at guards waits unit can =
+    can_charge w.shared v.machine k n ≡ true → w.shared.closed < k → Moves w v (charged v) (after_charge w.shared v.machine k n)
+charge-for w i k n v sound at guards waits unit can later =
     let more : (m j q : ℕ) → IsUnit w.shared m j q → used_at (after_charge w.shared v.machine k n) m j q ≡ used_at w.shared m j q + one (is_word m j q v.machine k n) =
     λ m j q here. word-raised w.shared w.shared.used v.machine k n m j q sound.tables.used unit here in
     let test : nat_lt (used_at w.shared v.machine k n) (limit_of w.shared.shape v.machine n) ≡ true = can in
     let low : used_at w.shared v.machine k n < limit_of w.shared.shape v.machine n = grind (arith, nat_tests, test) in
     words-moves w i v (charged v) (slice_set w.shared.used (place w.shared v.machine k n) (used_at w.shared v.machine k n + 1)) w.shared.flying sound at
-    (keeps-of v (charged v) (put-charged v (waiting v.stack)) (charged-keeps v (sound.own i v at) guards))
+    (keeps-of w i v sound at (charged v) (put-charged v (waiting v.stack)) (charged-keeps v (sound.own i v at) guards))
     (length-set w.shared.used (place w.shared v.machine k n) (used_at w.shared v.machine k n + 1)) refl
     (λ m j q here. let a = more m j q here in let b = charged-count (credits_of m j q) v (k, n) guards waits in omega arith)
     (λ m j q here. let b = charged-count (flying_of m j q) v (k, n) guards waits in omega arith)
     (λ m j q here. let a = more m j q here in let b = limit-raised w.shared v.machine k n m j q low (sound.limits m j q here) in omega arith)
+    (λ m j q here early. let a = more m j q here in let b = other-word m j q k v.machine n w.shared.closed early later in omega arith)
     (λ home. let b = charged-count (buffers_of home) v (k, n) guards waits in omega arith)
     (charged-roots (cursor_at w.shared v.machine) v (sound.claimed i v at))
 
@@ -105,7 +111,7 @@ charge-happens tree w i v sound at guards shared =
     let f = child-unit w i v sound at guards in
     let test : can_charge w.shared v.machine f.0 f.1.0 ≡ true = sym (ap (can_charge_for w.shared v.machine) f.1.1.0) ∙ can.0 in
     subst (λ h. Moves w v (charged v) h) (sym (ap (λ o. charged_for o v.machine w.shared) f.1.1.0))
-    (charge-for w i f.0 f.1.0 v sound at guards f.1.1.0 f.1.1.1 test)
+    (charge-for w i f.0 f.1.0 v sound at guards f.1.1.0 f.1.1.1 test (child-later w i v f.0 f.1.0 sound at f.1.1.0))
 
 -- ---- fetch
 pub fetch-happens : (tree : Tree) (w : World) (i : ℕ) (v : State) → Sound w → slice_get w.workers i ≡ Some v → own_guard (Fetch i) v ≡ None → shared_guard (Fetch i) v w.shared ≡ None → After tree w (Fetch i) v
@@ -120,7 +126,7 @@ fetch-happens tree w i v sound at guards shared =
     let low = machine-in w i v sound at in
     let size = sound.tables.pools in
     stores-moves w i v (fetched batch v) (slice_set w.shared.pools v.machine (pool_at w.shared v.machine - 1)) w.shared.inboxes sound at
-    (keeps-of v (fetched batch v) (put-fetched v batch v.hand) (fetched-keeps v batch worker guards is))
+    (keeps-of w i v sound at (fetched batch v) (put-fetched v batch v.hand) (fetched-keeps v batch worker guards is))
     (length-set w.shared.pools v.machine (pool_at w.shared v.machine - 1)) refl
     (λ m k n. let b = fetched-count (credits_of m k n) v batch f.0 f.1.0 worker f.1.1 in omega arith)
     (λ m k n here. let b = fetched-count (flying_of m k n) v batch f.0 f.1.0 worker f.1.1 in omega arith)
@@ -137,11 +143,12 @@ post-for w i k n v b sound at guards hand found from stage to unit =
     let more : (m j q : ℕ) → IsUnit w.shared m j q → flying_at (after_post w.shared v.machine k n) m j q ≡ flying_at w.shared m j q + one (is_word m j q v.machine k n) =
     λ m j q here. word-raised w.shared w.shared.flying v.machine k n m j q sound.tables.flying unit here in
     words-moves w i v (posted k n v) w.shared.used (slice_set w.shared.flying (place w.shared v.machine k n) (flying_at w.shared v.machine k n + 1)) sound at
-    (keeps-of v (posted k n v) (put-posted v k n (open_at v.slots k n)) (posted-keeps v k n worker guards))
+    (keeps-of w i v sound at (posted k n v) (put-posted v k n (open_at v.slots k n)) (posted-keeps v k n worker guards))
     refl (length-set w.shared.flying (place w.shared v.machine k n) (flying_at w.shared v.machine k n + 1))
     (λ m j q here. let a = more m j q here in let c = posted-count (credits_of m j q) v k n b worker hand found in let d = same m j q in omega arith)
     (λ m j q here. let a = more m j q here in let c = posted-count (flying_of m j q) v k n b worker hand found in let d = same m j q in omega arith)
     sound.limits
+    (λ m j q here early. omega arith)
     (λ home. let c = posted-count (buffers_of home) v k n b worker hand found in omega arith)
     (posted-roots (cursor_at w.shared v.machine) v k n (sound.claimed i v at))
 
@@ -175,11 +182,12 @@ discharge-for w i from stage v sound at hand =
     let less : (m j q : ℕ) → IsUnit w.shared m j q → used_at (after_discharge w.shared from stage v.machine) m j q + one (is_word m j q from stage v.machine) ≡ used_at w.shared m j q =
     λ m j q there. word-lowered w.shared w.shared.used from stage v.machine m j q sound.tables.used unit there some in
     words-moves w i v (freed v) (slice_set w.shared.used (place w.shared from stage v.machine) (used_at w.shared from stage v.machine - 1)) w.shared.flying sound at
-    (keeps-of v (freed v) (record { place = record { number = refl; machine = refl; shape = refl }; enrolled = refl }) (freed-keeps v worker))
+    (keeps-of w i v sound at (freed v) (record { place = record { number = refl; machine = refl; shape = refl }; enrolled = refl; marks = refl }) (freed-keeps v worker))
     (length-set w.shared.used (place w.shared from stage v.machine) (used_at w.shared from stage v.machine - 1)) refl
     (λ m j q there. let a = less m j q there in let b = gone (credits_of m j q) in omega arith)
     (λ m j q there. let b = gone (flying_of m j q) in omega arith)
     (λ m j q there. let a = less m j q there in let b = sound.limits m j q there in omega arith)
+    (λ m j q there early. let a = less m j q there in omega arith)
     (λ home. let b = gone (buffers_of home) in omega arith)
     (sound.claimed i v at)
 
@@ -200,11 +208,12 @@ pick-for w i v b sound at guards hand can =
     let less : (m j q : ℕ) → IsUnit w.shared m j q → flying_at (after_pick w.shared b.from b.stage b.to) m j q + one (is_word m j q b.from b.stage b.to) ≡ flying_at w.shared m j q =
     λ m j q there. word-lowered w.shared w.shared.flying b.from b.stage b.to m j q sound.tables.flying unit there some in
     words-moves w i v (picked v) w.shared.used (slice_set w.shared.flying (place w.shared b.from b.stage b.to) (flying_at w.shared b.from b.stage b.to - 1)) sound at
-    (keeps-of v (picked v) (put-picked v v.hand) (picked-keeps v worker guards))
+    (keeps-of w i v sound at (picked v) (put-picked v v.hand) (picked-keeps v worker guards))
     refl (length-set w.shared.flying (place w.shared b.from b.stage b.to) (flying_at w.shared b.from b.stage b.to - 1))
     (λ m j q there. let a = less m j q there in let c = picked-count (credits_of m j q) v b worker hand in omega arith)
     (λ m j q there. let a = less m j q there in let c = picked-count (flying_of m j q) v b worker hand in omega arith)
     sound.limits
+    (λ m j q there early. omega arith)
     (λ home. let c = picked-count (buffers_of home) v b worker hand in omega arith)
     (picked-roots (cursor_at w.shared v.machine) v (sound.claimed i v at))
 

@@ -1,6 +1,11 @@
+pub mod Bound
+pub mod Gauge
 pub mod May
 pub mod Owed
+pub mod Reach
+pub mod Rows
 pub mod Sound
 pub mod Step
 pub mod Stepped
+pub mod Work
 pub mod World

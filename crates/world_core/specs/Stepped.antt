@@ -27,3 +27,9 @@ IsStepped tree old event NoMemory new = (guard_of old event ≡ None) × (new �
 abbrev pub stepped_of : Result (Unit {0}) base.NoMemory → Stepped
 stepped_of (Ok made) = Done
 stepped_of (Err lack) = NoMemory
+
+-- what holds where the event's change was made
+abbrev pub IfDone : Stepped → Type 0 → Type 0
+IfDone Done fact = fact
+IfDone (NotEnabled guard) fact = Unit {0}
+IfDone NoMemory fact = Unit {0}

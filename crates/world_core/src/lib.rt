@@ -20,15 +20,20 @@
 //! - `enrolled`, `retired`: the enrolled workers of a machine are counted, and who has retired has left no root.
 //! - `messages`: a message in an inbox is of that machine and stage.
 //! - `cursors`, `claimed`: no cursor is past the roots, and the later roots of a root frame are claimed.
+//! - `closed`, `marks`: nothing of a closed stage is left, and the marks of the stage that closes next are of words that
+//!   are 0. So a closed stage is never reached again (`World::closed`).
 //! - `tables`, `number_of_workers`, `placed`: each table has its size, no more stages are closed than there are, and each
 //!   worker has its number, its machine and the shape of all.
 #![tactic(auto)]
 
 mod events;
+mod gauge;
 mod guards;
+pub mod laws;
 mod stepped;
 mod world;
 
 pub use dfs_worker::{Event, Guard};
+pub use gauge::Gauge;
 pub use stepped::Stepped;
 pub use world::World;

@@ -1,8 +1,12 @@
-ghost use Rattle.std.specs.Prelude.{◌≡◌, ◌*◌, IfOk, length};
+ghost use Rattle.std.specs.Prelude.{◌≡◌, ◌*◌, ◌<◌, ◌≤◌, ◌↔◌, IsTrue, IfOk, length};
+ghost use Rattle.world_core.specs.Reach.{CanReach};
+ghost use Rattle.world_core.specs.Rows.{IsFinished};
 ghost use Rattle.adfs_base.specs.Shape.{IsShape};
 ghost use Rattle.world_core.specs.Owed.{owed};
+ghost use Rattle.world_core.specs.Sound.{Sound};
 ghost use Rattle.world_core.specs.Step.{guard_of};
-ghost use Rattle.world_core.specs.Stepped.{IsStepped, stepped_of};
+ghost use Rattle.world_core.specs.Stepped.{IsStepped, IfDone, stepped_of};
+ghost use Rattle.world_core.specs.Work.{work_left};
 ghost use Rattle.world_core.specs.World.{Fits, fresh_workers, roots_of, start_world};
 
 use crate::events::make;
@@ -46,7 +50,8 @@ fn stepped(made: Result<(), NoMemory>) -> Stepped
 impl World {
     /// The workers, in the order of their numbers.
     pub fn workers(&self) -> &[Worker]
-        ensures { result.now ≡ self.now.workers }
+        ensures workers { result.now ≡ self.now.workers }
+        ensures sound { Sound self.now }
     {
         &self.workers
     }
@@ -58,6 +63,21 @@ impl World {
         &self.fabric
     }
 
+    /// How many stages are closed. None of these can be reached again.
+    pub fn closed(&self) -> u32
+        ensures closed { result ≡ self.now.shared.closed }
+        ensures stays { (stage : _) → stage < result → CanReach self.now stage → ⊥ }
+    {
+        self.fabric.closed_at()
+    }
+
+    /// Whether all stages are closed: nothing is left to do.
+    pub fn finished(&self) -> bool
+        ensures { IsTrue result ↔ IsFinished self.now }
+    {
+        self.fabric.closed_at() == self.fabric.shape().stages()
+    }
+
     /// The first guard of the event that fails. None exactly where all hold.
     pub fn enabled<X: Expand>(&self, x: &X, event: &Event) -> Option<Guard>
         ensures { result ≡ guard_of self.now event.now }
@@ -66,12 +86,14 @@ impl World {
         first_guard(&self.workers, &self.fabric, event)
     }
 
-    /// Makes the event's change, where all its guards hold.
+    /// Makes the event's change, where all its guards hold. It leaves less work (`work_left`), so no run goes on for ever.
     pub fn step<X: Expand>(&mut self, x: &X, event: &Event) -> Stepped
         requires { Fits (X.tree x.now) self.old.shared }
         ensures stepped { IsStepped (X.tree x.now) self.old event.now result self.new }
         ensures fits { Fits (X.tree x.now) self.new.shared }
         ensures owed { (row : _) → owed row (X.tree x.now) self.old ≡ owed row (X.tree x.now) self.new }
+        ensures work { IfDone result (work_left (X.tree x.now) self.new < work_left (X.tree x.now) self.old) }
+        ensures closed { self.old.shared.closed ≤ self.new.shared.closed }
     {
         if let Some(guard) = first_guard(&self.workers, &self.fabric, event) {
             return Stepped::NotEnabled(guard);

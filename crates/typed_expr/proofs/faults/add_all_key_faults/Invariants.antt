@@ -4,4 +4,6 @@ use Rattle.typed_expr.specs.Typed as spec
 use Rattle.typed_expr.proofs.faults.add_all_key_faults.Given as goal
 
 abbrev pub invariant-loop-key : goal.invariant-loop-key
-invariant-loop-key l = l.faults ++ flat_map (spec.key_faults l.schema l.variables l.ast.distinct l.ast.items) (drop l.key-index l.key-items) ≡ l.initial.faults ++ flat_map (spec.key_faults l.schema l.variables l.ast.distinct l.ast.items) l.ast.keys
+invariant-loop-key l =
+    let told = spec.key_faults l.setting.schema.now l.setting.variables.now l.setting.distinct l.columns.items.now in
+    l.faults ++ flat_map told (drop l.key-index l.keys) ≡ l.initial.faults ++ flat_map told l.keys

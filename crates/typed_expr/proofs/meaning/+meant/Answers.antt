@@ -1,5 +1,6 @@
 use Rattle.std.proofs.Common.{sym}
 use Rattle.typed_expr.proofs.Cases.{meant-Int, meant-Text, meant-Date, meant-Bool, meant-Name, meant-Property, meant-Id, meant-Label, meant-Not, meant-Neg, meant-IsNull, meant-Binary}
+use Rattle.typed_expr.proofs.Wholes.{joined}
 use Rattle.typed_expr.proofs.meaning.+meant.Goals as goal
 
 pub returns-in-Bool : goal.returns-in-Bool
@@ -41,8 +42,9 @@ returns-in_ok-meant-in-IsNull t c =
     let part = rw c.get-in-IsNull.ensures at c.in_ok-meant-in-IsNull.ensures in
     rw (meant-IsNull c.args.scene.schema.now c.args.scene.variables.now c.args.scene.captures.now c.args.scene.texts.now c.args.expr.now c.in-IsNull.inside c.in-IsNull.negated c.in-IsNull.at c.in-IsNull.is, ← part) c.null_test.ensures
 
-pub returns-in_ok-right-in-Binary : goal.returns-in_ok-right-in-Binary
-returns-in_ok-right-in-Binary t c =
+pub returns-in_ok-left-in-Binary : goal.returns-in_ok-left-in-Binary
+returns-in_ok-left-in-Binary t c =
     let left = rw c.get-in-Binary.ensures at c.in_ok-left-in-Binary.ensures in
-    let right = rw c.get-in-Binary-2.ensures at c.in_ok-right-in-Binary.ensures in
-    rw (meant-Binary c.args.scene.schema.now c.args.scene.variables.now c.args.scene.captures.now c.args.scene.texts.now c.args.expr.now c.in-Binary.op c.in-Binary.left c.in-Binary.right c.in-Binary.at c.in-Binary.is, ← left, ← right) c.binary.ensures
+    let right = rw c.get-in-Binary-2.ensures at c.meant-right.ensures in
+    let whole = meant-Binary c.args.scene.schema.now c.args.scene.variables.now c.args.scene.captures.now c.args.scene.texts.now c.args.expr.now c.in-Binary.op c.in-Binary.left c.in-Binary.right c.in-Binary.at c.in-Binary.is in
+    joined c.in-Binary.op _ _ _ _ c.meant-right.result c.with_right.result left right (sym whole) c.with_right.ensures

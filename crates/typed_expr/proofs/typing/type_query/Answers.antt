@@ -1,6 +1,6 @@
 use Rattle.typed_expr.specs.Typed.{Gives, typed}
 use Rattle.typed_expr.proofs.Outcomes.{typed-in}
-use Rattle.typed_expr.proofs.Queries.{given-valid, given-well_formed}
+use Rattle.typed_expr.proofs.Queries.{given-kinds, given-valid, given-well_formed}
 use Rattle.typed_expr.proofs.typing.type_query.Goals as goal
 
 exact : (c : goal.After-drop-scope-11) → Gives c.args.texts.now c.typed_in.new.texts c.typed_in.result (typed c.args.schema.now c.args.texts.now c.args.ast.now)
@@ -15,3 +15,6 @@ returns-clause-well_formed c = given-well_formed c.args.schema.now c.args.texts.
 
 pub returns-clause-valid : goal.returns-clause-valid
 returns-clause-valid c = given-valid c.args.schema.now c.args.texts.now c.typed_in.new.texts c.args.ast.now c.typed_in.result (exact c)
+
+pub returns-clause-kinds : goal.returns-clause-kinds
+returns-clause-kinds c = given-kinds c.args.schema.now c.args.texts.now c.typed_in.new.texts c.args.ast.now c.typed_in.result (exact c)

@@ -1,8 +1,9 @@
-use Rattle.std.proofs.Common.{◌≡◌, ℕ, None, refl, sym, ap, subst, ◌∙◌}
+use Rattle.std.proofs.Common.{◌≡◌, ℕ, ◌<◌, ◌≤◌, None, refl, sym, ap, subst, ◌∙◌}
 use Rattle.std.specs.Prelude.{slice_set}
 use Rattle.dfs_worker.specs.State.{State}
 use Rattle.world_core.specs.Step.{guard_of}
-use Rattle.world_core.specs.Stepped.{IsStepped, stepped_of}
+use Rattle.world_core.specs.Stepped.{IsStepped, IfDone, stepped_of}
+use Rattle.world_core.specs.Work.{work_left}
 use Rattle.world_core.specs.World.{World, world_of, Fits}
 use Rattle.match_context.specs.declared.context.Context.{Context}
 use Rattle.world_core.specs.Owed.{owed}
@@ -55,3 +56,14 @@ returns-clause-owed g c =
 
 pub returns-clause-fits : goal.returns-clause-fits
 returns-clause-fits g c = (after g c).fits
+
+pub returns-clause-work : goal.returns-clause-work
+returns-clause-work g c =
+    let w' = world_of (slice_set c.self.inside.workers.items c.worker_of-at.result c.make.new.worker) c.make.new.fabric in
+    let t = g.X.Expand.tree c.args.x.now in
+    subst (λ r. IfDone r (work_left t w' < work_left t c.args.self.now)) (sym c.stepped.ensures)
+    (subst (λ (u : World). IfDone (stepped_of c.make.result) (work_left t w' < work_left t u)) c.self.view_is (after g c).work)
+
+pub returns-clause-closed : goal.returns-clause-closed
+returns-clause-closed g c =
+    subst (λ (u : World). u.shared.closed ≤ c.make.new.fabric.closed) c.self.view_is (after g c).closes

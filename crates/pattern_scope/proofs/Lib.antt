@@ -1,0 +1,5 @@
+pub mod Added
+mod Forests
+pub mod Joins
+mod Lists
+mod Named

@@ -1,6 +1,0 @@
-use Rattle.std.proofs.Common.{rules, arith}
-use Rattle.typed_expr.proofs.Lists.{range-push}
-use Rattle.typed_expr.proofs.joined.groups_of.Goals as goal
-
-pub loop-number-preserved : goal.loop-number-preserved
-loop-number-preserved c = range-push c.args.count c.loop-number.number c.loop-number.groups.items c.push.new.self.items (search (rules, arith)) c.loop-number.invariant (search rules)

@@ -1,7 +1,0 @@
-use Rattle.std.proofs.Common.{◌≡◌, drop}
-use Rattle.std.specs.Prelude.{fold}
-use Rattle.typed_expr.specs.Scope.{after_step, after_vertex}
-use Rattle.typed_expr.proofs.scope.Scope.path.Given as goal
-
-abbrev pub invariant-loop-step : goal.invariant-loop-step
-invariant-loop-step l = fold after_step (l.self, l.vertex) (drop l.step-index l.step-items) ≡ fold after_step (after_vertex l.fn.self l.path.first) l.path.steps
