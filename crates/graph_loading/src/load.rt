@@ -3,7 +3,7 @@ ghost use Rattle.std.specs.Prelude.{◌≡◌, ◌<◌, ◌≤◌, ◌+◌, ◌-
 ghost use Rattle.adfs_base.specs.Files.{file_of};
 ghost use Rattle.csv.specs.Records.{fields_of};
 ghost use Rattle.csv_records.specs.Table.{records_of};
-ghost use Rattle.graph_tables.specs.Faults.{FailsAt, Gives, HasCause, Loads};
+ghost use Rattle.graph_tables.specs.Faults.{FailsAt, Gives, HasCause, Loads, fault_of};
 ghost use Rattle.graph_tables.specs.Graph.{IsWhole, empty_graph};
 ghost use Rattle.graph_tables.specs.Loading.{IsSound, filled_of, graph_of, properties_in, tables_in};
 ghost use Rattle.graph_tables.specs.Manifest.{most_tables};
@@ -11,7 +11,7 @@ ghost use Rattle.graph_loading.specs.Loaded.{added_up, begun, edges_begun, file_
 ghost use Rattle.graph_loading.specs.Reaching.{IsReached, IsTableReached};
 ghost use Rattle.graph_loading.specs.Steps.{HasBegun, HasLoaded, IsEmpty, LacksAt, ReadsFiles, file_answer};
 
-use crate::rows::take_records;
+use crate::rows::{MOST_EDGES, MOST_VERTICES, take_records};
 use adfs_base::{Loaded, Store};
 use csv::ByteRecord;
 use csv_records::Records;
@@ -165,6 +165,19 @@ fn take_header(
     begin_table(alloc, at, table, &header, loading)
 }
 
+// Makes room for as many elements as a table has lines, of which the last may lack its end.
+fn make_room(of: ElementKind, bytes: &[u8], loading: &mut Loading) -> Result<(), TableFault>
+    ensures same { loading.new ≡ loading.old }
+    ensures memory { IfErr result (λ e. e ≡ fault_of 0 TableKind.NoMemory) }
+{
+    let lines = bytes.iter().filter(|b| **b == b'\n').count();
+    match of {
+        ElementKind::Vertex => loading.vertices.reserve(lines.min(MOST_VERTICES as usize))?,
+        ElementKind::Edge => loading.edges.reserve(lines.min(MOST_EDGES as usize))?,
+    }
+    Ok(())
+}
+
 // Adds the elements of a table's bytes.
 fn take_table(
     alloc: Global,
@@ -182,6 +195,7 @@ fn take_table(
     ensures tables { OnOk result (tables_in loading.new ≡ tables_in loading.old + 1) }
     ensures properties { OnOk result (properties_in loading.new ≤ properties_in loading.old + length bytes.now + 1) }
 {
+    make_room(table.of, bytes, loading)?;
     let mut records = Records::new(alloc, bytes);
     take_header(alloc, Place { file, row: 1 }, table, &mut records, loading)?;
     take_records(alloc, table.of, file, &mut records, loading)

@@ -28,9 +28,9 @@ use std::alloc::Global;
 use value_text::{CellFault, Texts, read_key, read_value};
 
 /// The most vertices and edges of a graph, and the most property cells of both.
-const MOST_VERTICES: u32 = 4_194_304;
+pub(crate) const MOST_VERTICES: u32 = 4_194_304;
 
-const MOST_EDGES: u32 = 16_777_216;
+pub(crate) const MOST_EDGES: u32 = 16_777_216;
 
 const MOST_CELLS: u64 = 67_108_864;
 
