@@ -11,8 +11,8 @@ ghost use Rattle.graph_loading.specs.Loaded.{added_up, begun, edges_begun, file_
 ghost use Rattle.graph_loading.specs.Reaching.{IsReached, IsTableReached};
 ghost use Rattle.graph_loading.specs.Steps.{HasBegun, HasLoaded, IsEmpty, LacksAt, ReadsFiles, file_answer};
 
-use crate::rows::{MOST_EDGES, MOST_VERTICES, take_records};
-use adfs_base::{Loaded, Store};
+use crate::rows::take_records;
+use adfs_base::{EDGES, FILE_BYTES, Loaded, Store, TABLE_BYTES, VERTICES};
 use csv::ByteRecord;
 use csv_records::Records;
 use graph_tables::{
@@ -21,17 +21,12 @@ use graph_tables::{
 };
 use std::alloc::Global;
 
-/// The most bytes of one file, and of all tables together.
-const MOST_OF_FILE: u64 = 268_435_456;
-
-const MOST_OF_ALL: u64 = 1_073_741_824;
-
 // What a load's answer means for a file, of which these bytes were read.
 fn answer(file: u32, loaded: Loaded, bytes: &[u8]) -> Result<(), TableFault>
     ensures { result ≡ file_answer file loaded (length bytes.now) }
 {
     match loaded {
-        Loaded::Whole if bytes.len() as u64 <= MOST_OF_FILE => Ok(()),
+        Loaded::Whole if bytes.len() as u64 <= FILE_BYTES => Ok(()),
         Loaded::Whole => Err(file_fault(file, TableKind::TooLong)),
         Loaded::Missing => Err(file_fault(file, TableKind::Missing)),
         Loaded::Failed => Err(file_fault(file, TableKind::ReadFault)),
@@ -51,7 +46,7 @@ fn load_file<S: Store>(
     ensures store { ReadsFiles S.files S.faults S.misses store.old store.new file file result }
 {
     bytes.clear();
-    let loaded = store.load(name, MOST_OF_FILE, bytes);
+    let loaded = store.load(name, FILE_BYTES, bytes);
     answer(file, loaded, bytes)
 }
 
@@ -64,7 +59,7 @@ fn add_up(file: u32, total: u64, bytes: &[u8]) -> Result<u64, TableFault>
     ensures more { IfOk result (λ sum. sum ≡ total + length bytes.now) }
 {
     let sum = total + bytes.len() as u64;
-    if sum > MOST_OF_ALL {
+    if sum > TABLE_BYTES {
         return Err(file_fault(file, TableKind::TooMany(Quantity::TotalBytes)));
     }
     Ok(sum)
@@ -172,8 +167,8 @@ fn make_room(of: ElementKind, bytes: &[u8], loading: &mut Loading) -> Result<(),
 {
     let lines = bytes.iter().filter(|b| **b == b'\n').count();
     match of {
-        ElementKind::Vertex => loading.vertices.reserve(lines.min(MOST_VERTICES as usize))?,
-        ElementKind::Edge => loading.edges.reserve(lines.min(MOST_EDGES as usize))?,
+        ElementKind::Vertex => loading.vertices.reserve(lines.min(VERTICES as usize))?,
+        ElementKind::Edge => loading.edges.reserve(lines.min(EDGES as usize))?,
     }
     Ok(())
 }
