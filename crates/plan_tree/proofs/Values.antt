@@ -16,11 +16,11 @@ use Rattle.typed_expr.proofs.Parts.{val-Binary, val-Captured, val-Constant, val-
 abbrev pub IsSame : List Value → List Value → ℕ → Type 0
 IsSame us vs place = slice_index_or us place value.Null ≡ slice_index_or vs place value.Null
 
-All-front : (P : ℕ → Type 0) (xs ys : List ℕ) → AllByRecursion P (xs ++ ys) → AllByRecursion P xs
+pub All-front : (P : ℕ → Type 0) (xs ys : List ℕ) → AllByRecursion P (xs ++ ys) → AllByRecursion P xs
 All-front P [] ys all = tt
 All-front P (x ∷ xs) ys all = (all.0, All-front P xs ys all.1)
 
-All-rest : (P : ℕ → Type 0) (xs ys : List ℕ) → AllByRecursion P (xs ++ ys) → AllByRecursion P ys
+pub All-rest : (P : ℕ → Type 0) (xs ys : List ℕ) → AllByRecursion P (xs ++ ys) → AllByRecursion P ys
 All-rest P [] ys all = all
 All-rest P (x ∷ xs) ys all = All-rest P xs ys all.1
 

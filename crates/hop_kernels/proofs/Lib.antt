@@ -1,0 +1,4 @@
+pub mod EntryLists
+pub mod Roots
+pub mod SeenWords
+pub mod StageFitting
