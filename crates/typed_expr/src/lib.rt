@@ -12,6 +12,7 @@
 #![tactic(auto)]
 
 mod build;
+mod capture_set;
 mod captures;
 mod count;
 pub mod expr;
