@@ -14,3 +14,4 @@ pub mod Starting
 pub mod Looking
 pub mod Sweeps
 pub mod Rounds
+pub mod Fresh

@@ -13,6 +13,7 @@ mod Outcomes
 pub use Rattle.typed_query.proofs.Parts
 mod Queries
 mod SameLaw
+mod SameUses
 mod Sames
 mod Scopes
 mod Trees

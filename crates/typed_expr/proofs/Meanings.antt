@@ -1,6 +1,7 @@
 -- What holds of the meaning of each expression: its captures are there and keep to the schema, its constants are
 -- valid, and it doesn't depend on places.
 use Rattle.std.proofs.Common.{◌≡◌, ◌∙◌, refl, sym, ap, subst, ℕ, ℤ, ◌+◌, ◌<◌, Bool, true, false, ◌&&◌, List, [], ◌∷◌, ◌++◌, append_assoc, length, map, Option, Some, None, arith}
+use Rattle.std.specs.Prelude.{◌==◌}
 use Rattle.std.specs.List.{AllByRecursion, cons_option, position_or_len, slice_get}
 use Rattle.std.specs.Option.{option_map}
 use Rattle.std.specs.Str.{bytes_eq}
@@ -21,7 +22,6 @@ use Rattle.value_text.specs.Valid.{IsValid}
 use Rattle.typed_query.specs.declared.expr.Expr.{Expr}
 use Rattle.typed_query.specs.declared.expr.Expr.TheVariants as expr
 use Rattle.typed_query.specs.declared.query.Capture.{Capture}
-use Rattle.typed_query.specs.declared.query.What.{What}
 use Rattle.typed_query.specs.declared.query.What.TheVariants as what
 use Rattle.pattern_scope.specs.declared.scope.Declared.{Declared}
 use Rattle.typed_expr.specs.Captured.{HasItsKind, KeepsKind}
@@ -29,7 +29,7 @@ use Rattle.typed_expr.specs.Kinds.{property_in}
 use Rattle.typed_expr.specs.Meaning.{captured, date_value, meant}
 use Rattle.pattern_scope.specs.Names.{variable_of}
 use Rattle.typed_query.specs.Parts.{HasCapturesBelow, HasValidConstants}
-use Rattle.typed_expr.specs.Uses.{literals, property_of_variable, property_use, same_use, same_what, use_of, uses}
+use Rattle.typed_expr.specs.Uses.{literals, property_of_variable, property_use, same_use, part_of, use_of, uses}
 use Rattle.pattern_scope.proofs.Added.{IsIn, all-join, all-split, position-within}
 use Rattle.typed_expr.proofs.AstByParts.{by_parts}
 use Rattle.typed_expr.proofs.Cases as cases
@@ -64,12 +64,7 @@ property-kept schema false name found is = property-found [] schema.vertex name 
 property-kept schema true name found is = property-found [] schema.edge name found is
 
 pub use-itself : (a : Capture) → same_use a a ≡ true
-use-itself a = ap (λ t. t && same_what a.what a.what) (eq-eqb a.variable a.variable refl) ∙ of_what a.what
-  where
-    of_what : (w : What) → same_what w w ≡ true
-    of_what (what.Property number kind) = eq-eqb number number refl
-    of_what what.Id = refl
-    of_what what.Label = refl
+use-itself a = ap (λ t. t && (part_of a.what == part_of a.what)) (eq-eqb a.variable a.variable refl) ∙ eq-eqb (part_of a.what) (part_of a.what) refl
 
 pub text-itself : (text : List ℕ) → bytes_eq text text ≡ true
 text-itself text = (bytes_eq-Decides text text).1 refl

@@ -12,10 +12,11 @@
 #![tactic(auto)]
 
 mod build;
+mod capture_set;
 mod captures;
 mod count;
 pub mod expr;
-mod fault;
+pub mod fault;
 mod faults;
 mod items;
 mod kinds;
@@ -24,7 +25,7 @@ mod literals;
 mod meaning;
 mod printed;
 pub mod query;
-mod scope;
+pub mod scope;
 mod selected;
 mod typing;
 mod uses;

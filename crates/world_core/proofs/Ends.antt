@@ -34,22 +34,22 @@ use Rattle.world_core.proofs.Past.{AreLater, enrolled-first, frames-later, child
 use Rattle.world_core.proofs.Travels.{shape-of, message-unit}
 
 -- ---- lists
-get-within : {A : Type 0} (xs : List A) (i : ℕ) → i < length xs → (x : A) × (slice_get xs i ≡ Some x)
+pub get-within : {A : Type 0} (xs : List A) (i : ℕ) → i < length xs → (x : A) × (slice_get xs i ≡ Some x)
 get-within [] i low = absurd (omega arith)
 get-within (x ∷ xs) zero low = (x, refl)
 get-within (x ∷ xs) (suc i) low = get-within xs i (omega arith)
 
-slot-get : {A : Type 0} (xs : List (Option A)) (i : ℕ) (x : A) → get_or xs i None ≡ Some x → slice_get xs i ≡ Some (Some x)
+pub slot-get : {A : Type 0} (xs : List (Option A)) (i : ℕ) (x : A) → get_or xs i None ≡ Some x → slice_get xs i ≡ Some (Some x)
 slot-get [] i x e = absurd (none-some x e)
 slot-get (y ∷ ys) zero x e = ap Some e
 slot-get (y ∷ ys) (suc i) x e = slot-get ys i x e
 
-get-slot : {A : Type 0} (xs : List (Option A)) (i : ℕ) (x : A) → slice_get xs i ≡ Some (Some x) → get_or xs i None ≡ Some x
+pub get-slot : {A : Type 0} (xs : List (Option A)) (i : ℕ) (x : A) → slice_get xs i ≡ Some (Some x) → get_or xs i None ≡ Some x
 get-slot [] i x e = absurd (none-some (Some x) e)
 get-slot (y ∷ ys) zero x e = cc
 get-slot (y ∷ ys) (suc i) x e = get-slot ys i x e
 
-total-none : {A : Type 0} (f : A → ℕ) (xs : List A) → ((i : ℕ) (x : A) → slice_get xs i ≡ Some x → f x ≡ 0) → total f xs ≡ 0
+pub total-none : {A : Type 0} (f : A → ℕ) (xs : List A) → ((i : ℕ) (x : A) → slice_get xs i ≡ Some x → f x ≡ 0) → total f xs ≡ 0
 total-none f [] none = refl
 total-none f (x ∷ xs) none = let a = none 0 x refl in let b = total-none f xs (λ i y e. none (suc i) y e) in omega arith
 
@@ -131,7 +131,7 @@ message-later w machine stage j ms b sound low inside at =
 
 -- ---- roots
 -- each machine has a worker
-machine-worker : (w : World) (m : ℕ) → Sound w → m < w.shared.shape.machines → (i : ℕ) × ((v : State) × ((slice_get w.workers i ≡ Some v) × (v.machine ≡ m)))
+pub machine-worker : (w : World) (m : ℕ) → Sound w → m < w.shared.shape.machines → (i : ℕ) × ((v : State) × ((slice_get w.workers i ≡ Some v) × (v.machine ≡ m)))
 machine-worker w m sound low =
     let n = w.shared.shape.workers in
     let some = sound.tables.shape.some_worker in
@@ -141,7 +141,7 @@ machine-worker w m sound low =
     let place = sound.placed (m * n) got.0 got.1 in
     (m * n, (got.0, (got.1, place.machine ∙ mul-div_cancel m some)))
 
-is-false : (b : Bool) → (b ≡ true → ⊥) → b ≡ false
+pub is-false : (b : Bool) → (b ≡ true → ⊥) → b ≡ false
 is-false true never = absurd (never refl)
 is-false false never = refl
 

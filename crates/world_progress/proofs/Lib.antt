@@ -1,0 +1,3 @@
+pub mod Hands
+pub mod Stuck
+pub mod Sums
