@@ -34,22 +34,34 @@ fn next<X: Expand>(tree: &X, level: &mut Level) -> Next {
     }
 }
 
+/// What a tree answered.
+#[derive(Drop)]
+pub struct Climbed {
+    pub rows: Vec<Context>,
+    pub children: u64,
+    pub skips: u64,
+}
+
 // Takes an answer of the topmost level.
 fn take(
     answer: Next,
     level: Level,
     levels: &mut Vec<Level>,
-    rows: &mut Vec<Context>,
+    climbed: &mut Climbed,
 ) -> Result<(), NoMemory> {
     let stage = level.frame.stage.saturating_add(1);
     match answer {
         Next::End => return Ok(()),
-        Next::Skip => levels.push(level)?,
+        Next::Skip => {
+            climbed.skips = climbed.skips.saturating_add(1);
+            levels.push(level)?;
+        }
         Next::Row(context) => {
-            rows.push(context)?;
+            climbed.rows.push(context)?;
             levels.push(level)?;
         }
         Next::Child(context, machine) => {
+            climbed.children = climbed.children.saturating_add(1);
             levels.push(level)?;
             levels.push(Level::new(machine, stage, context))?;
         }
@@ -57,12 +69,12 @@ fn take(
     Ok(())
 }
 
-// The rows below a context, behind those that are there.
+// What is below a context, behind what is there.
 fn climb<X: Expand>(
     alloc: Global,
     tree: &X,
     root: Level,
-    rows: &mut Vec<Context>,
+    climbed: &mut Climbed,
 ) -> Result<(), NoMemory> {
     let mut levels = vec![in alloc; root]?;
     for _ in 0..u64::MAX {
@@ -70,19 +82,23 @@ fn climb<X: Expand>(
             break;
         };
         let answer = next(tree, &mut level);
-        take(answer, level, &mut levels, rows)?;
+        take(answer, level, &mut levels, climbed)?;
     }
     Ok(())
 }
 
-/// The leaves of a tree.
-pub fn leaves<X: Expand>(alloc: Global, tree: &X) -> Result<Vec<Context>, NoMemory> {
-    let mut rows = Vec::new(alloc);
+/// A whole tree.
+pub fn climb_all<X: Expand>(alloc: Global, tree: &X) -> Result<Climbed, NoMemory> {
+    let mut climbed = Climbed {
+        rows: Vec::new(alloc),
+        children: 0,
+        skips: 0,
+    };
     for machine in 0..tree.machines() {
         for place in 0..tree.roots(machine) {
             let root = Level::new(machine, 0, tree.root(machine, place));
-            climb(alloc, tree, root, &mut rows)?;
+            climb(alloc, tree, root, &mut climbed)?;
         }
     }
-    Ok(rows)
+    Ok(climbed)
 }

@@ -8,7 +8,7 @@ ghost use Rattle.stage_plan.specs.Plans.{words_of};
 ghost use Rattle.hop_kernels.specs.Over.{AreParts};
 ghost use Rattle.hop_kernels.specs.PlanTrees.{over_of};
 
-use crate::climb::leaves;
+use crate::climb::{Climbed, climb_all};
 use crate::fault::Fault;
 use adfs_base::Store;
 use answer_rows::Row;
@@ -35,12 +35,7 @@ pub struct Way {
 /// The longest query, and the most texts: more than any line here has.
 const MOST: u32 = 65_536;
 
-fn query_of(
-    alloc: Global,
-    schema: &Schema,
-    texts: &mut Texts,
-    text: &str,
-) -> Result<Query, Fault>
+fn query_of(alloc: Global, schema: &Schema, texts: &mut Texts, text: &str) -> Result<Query, Fault>
     ensures { IfOk result IsWellFormed }
 {
     if text.len() > MOST as usize || texts.len() > MOST {
@@ -79,8 +74,8 @@ fn tree_of<'a>(
 fn rows_of(alloc: Global, tree: &PlanTree<'_>, texts: &Texts) -> Result<Vec<Row>, Fault>
     requires { words_of (over_of tree.now).query ≤ CONTEXT_WORDS }
 {
-    let contexts = leaves(alloc, tree)?;
-    Ok(collect(alloc, contexts, tree.query(), texts)?)
+    let climbed = climb_all(alloc, tree)?;
+    Ok(collect(alloc, climbed.rows, tree.query(), texts)?)
 }
 
 fn parts_of(alloc: Global, graph: Graph, way: Way) -> Result<Vec<Part>, Fault>
@@ -88,7 +83,11 @@ fn parts_of(alloc: Global, graph: Graph, way: Way) -> Result<Vec<Part>, Fault>
     requires some { 0 < way.machines }
     ensures { IfOk result (λ parts. AreParts parts.items) }
 {
-    let owner = if way.block { Owner::Block } else { Owner::Modulo };
+    let owner = if way.block {
+        Owner::Block
+    } else {
+        Owner::Modulo
+    };
     Ok(split(alloc, graph, &owner, way.machines)?)
 }
 
@@ -116,4 +115,25 @@ pub fn count_rows<S: Store>(
     let tree = tree_of(alloc, parts, query, &texts)?;
     let rows = rows_of(alloc, &tree, &texts)?;
     Ok(are_same(&plain, &rows).then_some(rows.len()))
+}
+
+/// What the tree of a query answers on one machine.
+pub fn climb_query<S: Store>(
+    alloc: Global,
+    store: &mut S,
+    manifest: &str,
+    text: &str,
+) -> Result<Climbed, Fault> {
+    let Ok(mut graph) = load_graph(alloc, store, manifest) else {
+        return Err(Fault::Tables);
+    };
+    let (schema, mut texts) = graph.detach();
+    let query = query_of(alloc, &schema, &mut texts, text)?;
+    let way = Way {
+        machines: 1,
+        block: false,
+    };
+    let parts = parts_of(alloc, graph, way)?;
+    let tree = tree_of(alloc, parts, query, &texts)?;
+    Ok(climb_all(alloc, &tree)?)
 }
