@@ -1,15 +1,13 @@
 -- Plain tables at the start of a run agree with a worker that holds nothing.
-use Rattle.std.proofs.Common.{◌≡◌, ℕ, ◌+◌, ◌*◌, ◌/◌, ◌<◌, ◌≤◌, Bool, true, false, cond, ◌&&◌, List, [], length, get_or, replicate, Option, Some, None, refl, sym, ap, ◌∙◌, subst, arith, zero, suc}
+use Rattle.std.proofs.Common.{◌≡◌, ℕ, ◌+◌, ◌*◌, ◌/◌, ◌<◌, Bool, true, false, cond, ◌&&◌, List, [], length, get_or, replicate, Some, None, refl, sym, ap, ◌∙◌, arith, zero, suc}
 use Rattle.std.specs.Prelude.{slice_get, nat_lt, nat_eq}
 use Rattle.std.proofs.lemmas.List.{get_or-replicate}
 use Rattle.std.proofs.lemmas.Nat.{div_below}
 use Rattle.std.proofs.lemmas.Option.{none-some}
 use Rattle.adfs_base.specs.Shape.{Extents, IsShape, pool_of}
-use Rattle.fabric.specs.Account.{one}
-use Rattle.fabric.specs.Plain.{PlainAgrees, credits_held, buffers_in}
-use Rattle.fabric.specs.Shared.{Shared, start, inbox_at}
+use Rattle.fabric.specs.Plain.{PlainAgrees, buffers_in}
+use Rattle.fabric.specs.Shared.{start, inbox_at}
 use Rattle.fabric.proofs.Starts.{start-shared, alike}
-use Rattle.match_context.specs.Bags.{total}
 use Rattle.match_context.specs.declared.message.Message.{Message}
 use Rattle.dfs_worker.proofs.Fresh.{fresh_holding}
 

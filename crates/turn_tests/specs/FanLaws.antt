@@ -1,12 +1,12 @@
 -- Fans are staged trees.
-use Rattle.std.proofs.Common.{◌≡◌, ℕ, ◌+◌, ◌-◌, ◌%◌, ◌<◌, ◌≤◌, Bool, true, false, cond, ◌&&◌, List, [], ◌∷◌, ◌++◌, refl, sym, ap, ◌∙◌, arith, zero, suc}
+use Rattle.std.proofs.Common.{◌≡◌, ℕ, ◌+◌, ◌-◌, ◌<◌, ◌≤◌, Bool, true, false, cond, List, [], ◌∷◌, ◌++◌, refl, sym, ap, ◌∙◌, arith, zero, suc}
 use Rattle.std.specs.Prelude.{nat_lt, nat_eq}
 use Rattle.std.proofs.Math.Nat.{mod-lt}
 use Rattle.std.proofs.lemmas.Bool.Decides.{nat_tests}
 use Rattle.match_context.specs.declared.context.Context.{Context}
-use Rattle.match_context.specs.Tree.{Tree, IsTree, IsItem, AreItems, Item, Below, Leaf, Pass, later, answer}
+use Rattle.match_context.specs.Tree.{IsTree, AreItems, Item, Pass, later}
 use Rattle.turn_tests.specs.declared.fan.Fan.{Fan}
-use Rattle.turn_tests.specs.Fans.{passes, children_from, has_children, child_count, is_last, one_leaf, fan_items, fan_ahead, fan_goes_on, fan_place, fan_tree}
+use Rattle.turn_tests.specs.Fans.{passes, children_from, child_count, one_leaf, fan_items, fan_ahead, fan_goes_on, fan_tree}
 
 lt-of : (a b : ℕ) → nat_lt a b ≡ true → a < b
 lt-of a b e = grind (arith, nat_tests)

@@ -8,46 +8,38 @@ use bfs_budget::Policy;
 use dfs_worker::{Event, Turn, Worker};
 use fabric::Fabric;
 
-/// What many turns answered.
+/// What many turns made.
 #[derive(Clone, Copy, Debug, PartialEq, Eq)]
 pub struct Tally {
-    pub turns: u32,
-    pub advances: u32,
-    pub descends: u32,
-    pub appends: u32,
-    pub posts: u32,
-    pub picks: u32,
+    /// Answers of tops.
+    pub answers: u32,
+    /// Children that were taken on: as the next top, or in a buffer.
+    pub children: u32,
+    pub charges: u32,
     pub discharges: u32,
-    pub marks: u32,
     pub closes: u32,
 }
 
 impl Tally {
     pub fn new() -> Tally {
         Tally {
-            turns: 0,
-            advances: 0,
-            descends: 0,
-            appends: 0,
-            posts: 0,
-            picks: 0,
+            answers: 0,
+            children: 0,
+            charges: 0,
             discharges: 0,
-            marks: 0,
             closes: 0,
         }
     }
 
-    /// One more turn, which made this.
+    /// Counts what a turn made.
     fn count(&mut self, event: Event) {
-        self.turns = self.turns.saturating_add(1);
         let number = match event {
-            Event::Advance { .. } => &mut self.advances,
-            Event::Descend { .. } => &mut self.descends,
-            Event::Append { .. } => &mut self.appends,
-            Event::Post { .. } => &mut self.posts,
-            Event::Pick { .. } => &mut self.picks,
+            Event::Advance { .. } => &mut self.answers,
+            Event::Descend { .. } | Event::Append { .. } | Event::Fetch { .. } => {
+                &mut self.children
+            }
+            Event::Charge { .. } => &mut self.charges,
             Event::Discharge { .. } => &mut self.discharges,
-            Event::Mark { .. } => &mut self.marks,
             Event::Close { .. } => &mut self.closes,
             _ => return,
         };

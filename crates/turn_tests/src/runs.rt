@@ -70,7 +70,12 @@ fn show(
 ) -> Result<(), NoMemory> {
     let rows = worker.rows().len();
     let closed = worker.closer().stage();
-    let text = format!(in alloc; "  {rows} rows, {closed} stages closed, {last:?}; {tally:?}\n")?;
+    let answers = tally.answers;
+    let children = tally.children;
+    let settled = tally.charges == tally.discharges;
+    let text = format!(in alloc;
+        "  {rows} rows of {answers} answers and {children} children, {closed} stages closed, credits are back: {settled}, {last:?}\n"
+    )?;
     shown.push_str(text.as_str())?;
     Ok(())
 }
