@@ -1,5 +1,6 @@
 -- A value of a kind is read back from its word.
-use Rattle.std.proofs.Common.{◌≡◌, ℕ, ℤ, pos, negsuc, ◌<◌, ◌^◌, ◌%◌, Bool, true, false, cond, ◌==◌, List, [], ◌∷◌, length, Option, Some, None, refl, sym, ap, ◌∙◌, subst, arith, w32, w64}
+use Rattle.std.proofs.Common.{◌≡◌, ℕ, ℤ, pos, negsuc, ◌<◌, ◌^◌, ◌%◌, Bool, true, false, cond, ◌==◌, List}
+use Rattle.std.proofs.Common.{[], ◌∷◌, length, Option, Some, None, refl, sym, ap, ◌∙◌, subst, arith, w32, w64}
 use Rattle.std.specs.Prelude.{FitsSigned, ◌≤ℤ◌, slice_get, nat_eq}
 use Rattle.std.specs.Int.{cast_signed, cast_unsigned}
 use Rattle.std.specs.List.{AllByRecursion}
@@ -16,7 +17,7 @@ use Rattle.adfs_base.specs.declared.value.Value.TheVariants as value
 use Rattle.element_store.specs.Columns.{value_of}
 use Rattle.element_store.specs.Elements.{Element}
 use Rattle.element_store.specs.Words.{HasKind, value_from}
-use Rattle.graph_tables.specs.Graph.{HasType, HasTypes, IsShown, without_ends}
+use Rattle.graph_tables.specs.Graph.{FitsWords, HasType, HasTypes, IsLong, IsShown, without_ends}
 use Rattle.graph_tables.specs.Properties.{Property, SchemaLists}
 use Rattle.pgql_meaning.specs.Captured.{use_of}
 use Rattle.result_collect.specs.Contexts.{kind_of}
@@ -29,7 +30,6 @@ use Rattle.typed_expr.specs.declared.query.What.TheVariants as what
 use Rattle.value_text.specs.Dates.{IsDay}
 use Rattle.value_text.specs.Numbers.{is_i64}
 use Rattle.value_text.specs.Valid.{IsValid}
-use Rattle.plan_tree.specs.Kinds.{FitsWords, IsLong}
 use Rattle.plan_tree.specs.Laws.{KindsAreTold}
 use Rattle.plan_tree.specs.Told.{AreToldOf, IsTold, word_from}
 use Rattle.plan_tree.proofs.Days.{first_day, last_day}
