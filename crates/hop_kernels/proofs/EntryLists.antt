@@ -8,8 +8,8 @@ use Rattle.std.proofs.lemmas.Option.{slice_get_past}
 use Rattle.match_context.specs.Tree.{Below, Item, Leaf, Pass, answer}
 use Rattle.match_context.specs.declared.expand.Next.{Next}
 use Rattle.match_context.specs.declared.expand.Next.TheVariants.{End, Skip}
-use Rattle.partition.specs.Parts.{Entry, MachinePart, adjacent_of, entry_at, lists_of}
-use Rattle.partition.specs.declared.adjacent.Adjacent.{Adjacent}
+use Rattle.partition.specs.Parts.{Entry, MachinePart, link_of_entry, entry_at, lists_of}
+use Rattle.partition.specs.declared.link.Link.{Link}
 use Rattle.typed_expr.specs.declared.query.Query.{Query}
 use Rattle.stage_plan.specs.declared.hop.Hop.TheVariants as hop
 use Rattle.stage_plan.specs.declared.stage.Gains.{Gains}
@@ -90,7 +90,7 @@ pub all-goes_on : (test : ℕ → Bool) (xs : List ℕ) (i : ℕ) (all : Bool) �
 all-goes_on test xs i all below passes is =
     ap (λ b. b && list_all test (drop (i + 1) xs)) (sym passes) ∙ sym (ap (list_all test) (drop-here xs i below)) ∙ is
 
-pub entry-is : (o : Option Entry) (entry : Adjacent) → option_map adjacent_of o ≡ Some entry → adjacent_of (unwrap_or o no_entry) ≡ entry
+pub entry-is : (o : Option Entry) (entry : Link) → option_map link_of_entry o ≡ Some entry → link_of_entry (unwrap_or o no_entry) ≡ entry
 entry-is None entry is = cc
 entry-is (Some e) entry is = cc
 

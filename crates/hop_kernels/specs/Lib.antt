@@ -1,6 +1,8 @@
 pub mod Entries
 pub mod Fitting
 pub mod Frames
+pub mod LabelTests
+pub mod Laws
 pub mod Looks
 pub mod Over
 pub mod PlanTrees

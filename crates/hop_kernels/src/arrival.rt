@@ -10,7 +10,6 @@ ghost use Rattle.hop_kernels.specs.Looks.{IsInSight, IsVertexAhead};
 ghost use Rattle.hop_kernels.specs.Spots.{AreNumbered, element_at, element_in};
 
 use crate::ground::Ground;
-use crate::labels::is_labelled;
 use crate::look::{Look, all_hold, all_told, first_word};
 use crate::spot::{Spot, place_in};
 use crate::words::write;
@@ -26,7 +25,7 @@ fn vertex_ahead(ground: &Ground<'_>, variable: u32, context: &Context) -> Option
 {
     let place = place_in(ground.part, context.words[1 + variable as usize])?;
     let (_, _, label) = ground.part.vertex(place);
-    if is_labelled(ground.query, ground.texts, variable, label) {
+    if ground.is_labelled(variable, label) {
         Some(Look {
             variable,
             spot: Spot::Vertex(place),

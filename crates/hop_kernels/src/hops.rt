@@ -2,7 +2,7 @@
 ghost use Rattle.std.specs.Prelude.{◌≡◌, ◌<◌, ◌≤◌, ◌+◌, Some, None, IsSome, MatchOption, drop, length, slice_get, slice_index};
 ghost use Rattle.std.specs.Option.{option_map};
 ghost use Rattle.match_context.specs.Tree.{answer};
-ghost use Rattle.partition.specs.Parts.{adjacent_of, entry_at};
+ghost use Rattle.partition.specs.Parts.{link_of_entry, entry_at};
 ghost use Rattle.stage_plan.specs.declared.hop.Hop.TheVariants as hop;
 ghost use Rattle.plan_tree.specs.Answers as answers;
 ghost use Rattle.plan_tree.specs.Told as told;
@@ -13,13 +13,12 @@ ghost use Rattle.hop_kernels.specs.Spots.{AreNumbered, entry_in};
 ghost use Rattle.hop_kernels.specs.declared.spot.Spot.TheVariants as spot;
 
 use crate::ground::Ground;
-use crate::labels::is_labelled;
 use crate::look::{Look, all_hold, first_word, is_told_at};
 use crate::spot::{Spot, place_in};
 use crate::words::write;
 use adfs_base::CONTEXT_WORDS;
 use match_context::{Context, Next};
-use partition::Adjacent;
+use partition::Link;
 use stage_plan::{Gains, Hop, Stage};
 use typed_expr::Query;
 
@@ -92,7 +91,7 @@ fn others_told(ground: &Ground<'_>, gains: &Gains, edge: u32, context: &Context)
 }
 
 // The numbers of an entry's edge and of its other end, where that is new, among the words.
-fn bind(words: &mut [u64; CONTEXT_WORDS as usize], step: Step, entry: Adjacent)
+fn bind(words: &mut [u64; CONTEXT_WORDS as usize], step: Step, entry: Link)
     requires edge_there { 1 + step.edge < 40 }
     requires end_there { IsBelow 39 step.to }
     ensures { words.new ≡ with_end step.to entry.other (told.with_number step.edge entry.edge words.old) }
@@ -108,7 +107,7 @@ fn child_along(
     ground: &Ground<'_>,
     gains: &Gains,
     step: Step,
-    entry: Adjacent,
+    entry: Link,
     context: &Context,
 ) -> Context
     requires room { HasRoom ground.now.query.now }
@@ -132,16 +131,16 @@ fn child_along(
 }
 
 // Along an entry: the child, or nothing where its edge doesn't fit. The context is copied only where it does.
-fn along(ground: &Ground<'_>, gains: &Gains, step: Step, entry: Adjacent, context: &Context) -> Next
+fn along(ground: &Ground<'_>, gains: &Gains, step: Step, entry: Link, context: &Context) -> Next
     requires room { HasRoom ground.now.query.now }
     requires fits { GainsFit ground.now.query.now (Some step.edge) gains.now }
     requires edge_there { step.edge < length ground.now.query.now.variables }
     requires end_there { IsThere ground.now.query.now step.to }
-    requires entry { option_map adjacent_of (entry_at step.out ground.now.part.now step.place step.number) ≡ Some entry }
+    requires entry { option_map link_of_entry (entry_at step.out ground.now.part.now step.place step.number) ≡ Some entry }
     ensures { result ≡ answer_along ground.now.texts.now ground.now.query.now gains.now step.edge step.to context.now.words (entry_in step.out ground.now.part.now step.place step.number) }
 {
     let _word = first_word(context);
-    if !is_labelled(ground.query, ground.texts, step.edge, entry.label) {
+    if !ground.is_labelled(step.edge, entry.label) {
         return Next::Skip;
     }
     let look = Look {
@@ -187,7 +186,7 @@ fn neighbour(ground: &Ground<'_>, stage: &Stage, way: Way, context: &Context, nu
         edge: way.edge,
         to: Some(way.to),
     };
-    let entry = ground.part.entry(place, way.out, number as u32);
+    let entry = ground.part.link(place, way.out, number as u32);
     along(ground, &stage.passage, step, entry, context)
 }
 
@@ -209,7 +208,7 @@ fn bound(ground: &Ground<'_>, stage: &Stage, way: Way, context: &Context, number
     let Some(place) = entry_place(ground, stage, context, number, way.out) else {
         return Next::End;
     };
-    let entry = ground.part.entry(place, way.out, number as u32);
+    let entry = ground.part.link(place, way.out, number as u32);
     if u64::from(entry.other) != end {
         return Next::Skip;
     }

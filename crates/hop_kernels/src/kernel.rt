@@ -13,6 +13,7 @@ ghost use Rattle.hop_kernels.specs.Spots.{AreNumbered};
 use crate::arrival::arrive;
 use crate::ground::Ground;
 use crate::hops::hop_answer;
+use crate::labels::text_tests;
 use match_context::{Context, Frame, Next};
 use partition::Part;
 use stage_plan::{Plan, Stage};
@@ -88,7 +89,13 @@ impl Kernel {
         ensures answer { result ≡ answer (ahead_of texts.now query.now part.now plan.now frame.old) }
         ensures changed { frame.new ≡ frame_after texts.now query.now part.now plan.now frame.old }
     {
-        let ground = Ground { texts, query, part };
+        let tests = text_tests();
+        let ground = Ground {
+            texts,
+            query,
+            part,
+            tests: &tests,
+        };
         let stage = &plan.list()[frame.stage as usize];
         next(&ground, stage, &mut frame.context, &mut frame.place)
     }

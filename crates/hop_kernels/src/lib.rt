@@ -16,6 +16,7 @@ mod ground;
 mod hops;
 mod kernel;
 mod labels;
+pub mod laws;
 mod look;
 mod spot;
 mod tree;

@@ -8,12 +8,15 @@ ghost use Rattle.stage_plan.specs.Plans.{plan_of, words_of};
 ghost use Rattle.plan_tree.specs.PlanTree as over;
 ghost use Rattle.plan_tree.specs.PlanTree.{tree_of};
 ghost use Rattle.hop_kernels.specs.Fitting.{HasRoom, StageFits};
+ghost use Rattle.std.proofs.Props.{props};
+ghost use Rattle.hop_kernels.specs.LabelTests.{AreTests};
 ghost use Rattle.hop_kernels.specs.Over.{AreParts, tree_over};
 ghost use Rattle.hop_kernels.specs.Props.{AreNumbered-prop, IsTree-prop, StagesFit-prop};
 ghost use Rattle.hop_kernels.specs.Spots.{AreNumbered};
 
 use crate::ground::Ground;
 use crate::kernel::next;
+use crate::labels::{LabelTest, MOST_VARIABLES, label_tests};
 use adfs_base::CONTEXT_WORDS;
 use match_context::{Context, Expand, Frame, Next};
 use partition::Part;
@@ -31,6 +34,8 @@ pub struct PlanTree<'a> {
     plan: Plan,
     query: Query,
     texts: &'a Texts,
+    tests: [LabelTest; MOST_VARIABLES],
+    ghost tests_are: { AreTests texts.now query tests } by { Prim.hlevel props },
     ghost few: { length parts.items < 2 ^ 32 },
     ghost numbered: { AllByRecursion AreNumbered parts.items } by { AreNumbered-prop parts.items },
     ghost room: { HasRoom query },
@@ -69,11 +74,13 @@ impl<'a> PlanTree<'a> {
         requires parts { AreParts parts.items }
         ensures over { over_of result ≡ record { texts = texts.now; query = query; plan = plan; parts = parts.items } }
     {
+        let tests = label_tests(&query, texts);
         PlanTree {
             parts,
             plan,
             query,
             texts,
+            tests,
         }
     }
 
@@ -88,6 +95,7 @@ impl<'a> PlanTree<'a> {
             plan,
             query,
             texts: _,
+            tests: _,
         } = self;
         (parts, plan, query)
     }
@@ -126,6 +134,7 @@ impl Expand for PlanTree<'_> {
             texts: self.texts,
             query: &self.query,
             part: &self.parts[machine as usize],
+            tests: &self.tests,
         };
         let stage = &self.plan.list()[frame.stage as usize];
         next(&ground, stage, &mut frame.context, &mut frame.place)

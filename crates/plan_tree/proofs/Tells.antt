@@ -1,5 +1,5 @@
 -- What the words of a context tell of an assignment stays true as one binds, arrives and tests.
-use Rattle.std.proofs.Common.{◌≡◌, ℕ, zero, suc, ◌+◌, ◌<◌, ◌≤◌, ◌⊎◌, Bool, true, false, cond, not, ◌&&◌, ◌||◌, ◌==◌, eqb, List, [], ◌∷◌, ◌++◌, length, map, get_or, set, filter, flat_map}
+use Rattle.std.proofs.Common.{◌≡◌, ℕ, zero, suc, ◌+◌, ◌<◌, ◌≤◌, ◌⊎◌, Bool, true, false, cond, not, ◌&&◌, ◌||◌, ◌==◌, eqb, List, [], ◌∷◌, ◌++◌, length, map, get_or, set}
 use Rattle.std.proofs.Common.{Option, Some, None, refl, sym, ap, ap₂, ◌∙◌, subst, arith, true≢false, inl, inr, length-set, get_or-set_same, get_or-set_other, slice_index_or}
 use Rattle.std.specs.Prelude.{slice_get}
 use Rattle.std.specs.Int.{bit_at}
@@ -16,7 +16,7 @@ use Rattle.element_store.specs.Words.{value_from}
 use Rattle.graph_tables.specs.Graph.{IsShown, PropertyGraph, without_ends}
 use Rattle.match_context.specs.Words.{captured_in}
 use Rattle.pgql_meaning.specs.Captured.{captured, captured_value, element_at, element_of, use_of}
-use Rattle.pgql_meaning.specs.Fits.{Holds, Labels, has_labels, is_labelled, meets}
+use Rattle.pgql_meaning.specs.Fits.{Holds, Labels, has_labels, meets}
 use Rattle.pgql_meaning.specs.Shown.{HasShown}
 use Rattle.result_collect.specs.Contexts.{kind_of, values_from}
 use Rattle.typed_expr.specs.Parts.{captures}

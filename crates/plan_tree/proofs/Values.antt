@@ -1,9 +1,8 @@
 -- An expression's value rests on the captures that it uses alone.
-use Rattle.std.proofs.Common.{◌≡◌, ℕ, zero, suc, ◌+◌, ◌<◌, Bool, List, [], ◌∷◌, ◌++◌, length, refl, sym, ap, ap₂, ◌∙◌, subst, arith, slice_index_or}
+use Rattle.std.proofs.Common.{◌≡◌, ℕ, List, [], ◌∷◌, ◌++◌, refl, sym, ap, ap₂, ◌∙◌, subst, slice_index_or}
 use Rattle.std.specs.List.{AllByRecursion}
 use Rattle.adfs_base.specs.declared.value.Value.{Value}
 use Rattle.adfs_base.specs.declared.value.Value.TheVariants as value
-use Rattle.pgql_tree.specs.declared.ast.Op.{Op}
 use Rattle.typed_expr.specs.declared.expr.Expr.{Expr}
 use Rattle.typed_expr.specs.declared.expr.Expr.TheVariants as expr
 use Rattle.typed_expr.specs.Parts.{captures}

@@ -1,7 +1,7 @@
 use Rattle.std.proofs.Common.{◌≡◌, true, false, ap, ap₂, sym, ◌∙◌}
 use Rattle.element_store.specs.Elements.{Element}
 use Rattle.match_context.specs.declared.expand.Next.TheVariants.{Child}
-use Rattle.partition.specs.Parts.{adjacent_of, entry_at}
+use Rattle.partition.specs.Parts.{link_of_entry, entry_at}
 use Rattle.pgql_meaning.specs.Fits.{has_labels, is_in_lists}
 use Rattle.stage_plan.specs.Walk.{captures_of}
 use Rattle.value_text.specs.Texts.{text_at}
@@ -23,7 +23,7 @@ returns-then-not-all_hold c =
     let conjuncts = c.args.gains.now.conjuncts in
     let there = entry_at step.out part step.place step.number in
     let entry = entry_in step.out part step.place step.number in
-    let same : adjacent_of entry ≡ c.args.entry = entry-is there c.args.entry c.requires.entry in
+    let same : link_of_entry entry ≡ c.args.entry = entry-is there c.args.entry c.requires.entry in
     let labelled : has_labels texts (labels_of query step.edge) (edge_in entry) ≡ true =
     ap (λ a. is_in_lists (text_at texts a.label) (labels_of query step.edge)) same ∙ sym c.is_labelled.ensures ∙ c.if-not-is_labelled.false in
     let hold : all_hold texts query (written query (edge_in entry) (captures_of query step.edge) words) conjuncts ≡ false =
@@ -42,7 +42,7 @@ returns c =
     let conjuncts = c.args.gains.now.conjuncts in
     let there = entry_at step.out part step.place step.number in
     let entry = entry_in step.out part step.place step.number in
-    let same : adjacent_of entry ≡ c.args.entry = entry-is there c.args.entry c.requires.entry in
+    let same : link_of_entry entry ≡ c.args.entry = entry-is there c.args.entry c.requires.entry in
     let labelled : has_labels texts (labels_of query step.edge) (edge_in entry) ≡ true =
     ap (λ a. is_in_lists (text_at texts a.label) (labels_of query step.edge)) same ∙ sym c.is_labelled.ensures ∙ c.if-not-is_labelled.false in
     let hold : all_hold texts query (written query (edge_in entry) (captures_of query step.edge) words) conjuncts ≡ true =

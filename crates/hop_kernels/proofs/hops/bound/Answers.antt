@@ -31,7 +31,7 @@ returns-then-from-end-clause-answer c =
     let end = slice_index words (1 + way.to) in
     let vertex : is_vertex part end ≡ true = lt-ltb end (length part.owners) (subst (λ n. end < n) (c.from.ensures ∙ c.graph_vertices.ensures) c.if-end-from.false) in
     let entry = entry_in way.out part c.in-Some.place c.args.number in
-    let same = ap (λ a. a.other) (entry-is (entry_at way.out part c.in-Some.place c.args.number) c.entry-entry.result c.entry-entry.ensures) in
+    let same = ap (λ a. a.other) (entry-is (entry_at way.out part c.in-Some.place c.args.number) c.link-entry.result c.link-entry.ensures) in
     let other : (entry.other == end) ≡ false = ne_eqb entry.other end (λ e. c.if-from-end.true (c.from-2.ensures ∙ sym same ∙ e)) in
     sym (bound-ahead texts query part stage words way.out way.edge way.to c.args.number c.requires.hop vertex (sym c.others_told.ensures ∙ c.if-not-others_told.false)
     ∙ ap (answer_at (to_bound texts query stage.passage way.edge way.to words)) c.in-Some.ensures.same
@@ -48,7 +48,7 @@ returns-clause-answer c =
     let end = slice_index words (1 + way.to) in
     let vertex : is_vertex part end ≡ true = lt-ltb end (length part.owners) (subst (λ n. end < n) (c.from.ensures ∙ c.graph_vertices.ensures) c.if-end-from.false) in
     let entry = entry_in way.out part c.in-Some.place c.args.number in
-    let same = ap (λ a. a.other) (entry-is (entry_at way.out part c.in-Some.place c.args.number) c.entry-entry.result c.entry-entry.ensures) in
+    let same = ap (λ a. a.other) (entry-is (entry_at way.out part c.in-Some.place c.args.number) c.link-entry.result c.link-entry.ensures) in
     let fits : (entry.other == end) ≡ true = eq-eqb entry.other end (same ∙ sym c.from-2.ensures ∙ c.if-from-end.false) in
     c.along.ensures
     ∙ sym (bound-ahead texts query part stage words way.out way.edge way.to c.args.number c.requires.hop vertex (sym c.others_told.ensures ∙ c.if-not-others_told.false)

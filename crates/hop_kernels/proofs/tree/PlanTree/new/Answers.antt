@@ -15,6 +15,7 @@ invariant_of-result c =
     let query = c.args.query in
     let are = c.requires.parts in
     record {
+      tests_are = c.label_tests-tests.ensures;
       few = parts-few c.args.parts.items are;
       numbered = parts-numbered c.args.parts.items are;
       room = c.requires.room;
