@@ -161,12 +161,22 @@ fn take_header(
     begin_table(alloc, at, table, &header, loading)
 }
 
-// Makes room for as many elements as a table has lines, of which the last may lack its end.
+/// How many bytes of a table are looked at to guess the number of its lines.
+const SAMPLE: usize = 65_536;
+
+// About as many lines as a table has, by those of its front.
+fn lines_about(bytes: &[u8]) -> usize {
+    let front = &bytes[..bytes.len().min(SAMPLE)];
+    let lines = memchr_iter(b'\n', front).count();
+    lines.saturating_mul(bytes.len() / SAMPLE + 1)
+}
+
+// Makes room for about as many elements as a table has lines.
 fn make_room(of: ElementKind, bytes: &[u8], loading: &mut Loading) -> Result<(), TableFault>
     ensures same { loading.new ≡ loading.old }
     ensures memory { IfErr result (λ e. e ≡ fault_of 0 TableKind.NoMemory) }
 {
-    let lines = memchr_iter(b'\n', bytes).count();
+    let lines = lines_about(bytes);
     match of {
         ElementKind::Vertex => loading.vertices.reserve(lines.min(VERTICES as usize))?,
         ElementKind::Edge => loading.edges.reserve(lines.min(EDGES as usize))?,
@@ -259,12 +269,11 @@ fn load_manifest<S: Store>(
     read_manifest(alloc, bytes)
 }
 
-// Loads the tables that a manifest names. `bytes` is where each file is read to.
+// Loads the tables that a manifest names.
 fn load_named<S: Store>(
     alloc: Global,
     store: &mut S,
     manifest: &str,
-    bytes: &mut Vec<u8>,
     loading: &mut Loading,
 ) -> Result<u64, TableFault>
     requires { IsEmpty loading.old }
@@ -273,8 +282,9 @@ fn load_named<S: Store>(
     ensures store { ReadsFiles S.files S.faults S.misses store.old store.new 0 most_tables result }
     ensures reached { IfErr result (λ e. e.kind ≡ TableKind.ReadFault → IfSome (S.files store.old) (λ files. IsReached files manifest.now e.file)) }
 {
-    let tables = load_manifest(alloc, store, manifest, bytes)?;
-    load_tables(alloc, store, &tables, bytes, loading)
+    let mut bytes = Vec::new(alloc);
+    let tables = load_manifest(alloc, store, manifest, &mut bytes)?;
+    load_tables(alloc, store, &tables, &mut bytes, loading)
 }
 
 /// Loads the graph of a manifest and the tables that it names.
@@ -298,7 +308,6 @@ pub fn load_graph<S: Store>(
     ensures reached { IfErr result (λ e. e.kind ≡ TableKind.ReadFault → IfSome (S.files store.old) (λ files. IsReached files manifest.now e.file)) }
 {
     let mut loading = Loading::new(alloc);
-    let mut bytes = Vec::new(alloc);
-    load_named(alloc, store, manifest, &mut bytes, &mut loading)?;
+    load_named(alloc, store, manifest, &mut loading)?;
     Ok(Graph::new(alloc, loading))
 }
