@@ -1,3 +1,4 @@
+//! The top call.
 ghost use Rattle.std.specs.Prelude.{◌≡◌, IfSome, map};
 ghost use Rattle.std.specs.String.{string_bytes};
 ghost use Rattle.adfs_base.specs.Counts.{Rose};

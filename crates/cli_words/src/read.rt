@@ -1,3 +1,4 @@
+//! From words to options.
 ghost use Rattle.std.specs.Prelude.{◌≡◌, ◌≤◌, IfOk, map};
 ghost use Rattle.std.specs.String.{string_bytes};
 ghost use Rattle.cli_words.specs.Bare.{refusal};

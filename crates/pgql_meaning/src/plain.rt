@@ -1,3 +1,4 @@
+//! The answer of a query, by nested loops.
 ghost use Rattle.std.specs.Prelude.{◌≡◌, IfOk, map};
 ghost use Rattle.pgql_meaning.specs.Answer as answer;
 ghost use Rattle.pgql_meaning.specs.Shown.{AreShown, HasMeaning, HasShown};

@@ -1,3 +1,4 @@
+//! The line of a query that is refused.
 ghost use Rattle.std.specs.Prelude.{◌≡◌, ◌++◌, OnOk, OnErr, IfOk};
 ghost use Rattle.std.specs.String.{string_bytes};
 ghost use Rattle.result_collect.specs.Refusals as spec;

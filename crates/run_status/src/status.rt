@@ -1,3 +1,4 @@
+//! How a run ended, as a number and a line.
 ghost use Rattle.std.specs.Prelude.{◌≡◌, ◌++◌, OnOk, OnErr, IfOk};
 ghost use Rattle.std.specs.String.{string_bytes};
 ghost use Rattle.run_status.specs.StatusLine.{no_memory_line, owner_line, owners_refused, quantity_name, status_line, status_number};
