@@ -64,6 +64,7 @@ impl Columns {
     {
         match self.kinds.get_index(place) {
             Some((property, kind)) => (*property, *kind),
+            // It doesn't come: the place is a column's.
             None => (0, Kind::Int),
         }
     }

@@ -144,6 +144,13 @@ impl Elements {
         Ok(())
     }
 
+    /// Makes room among the keys for so many more elements.
+    pub fn reserve(&mut self, elements: usize) -> Result<(), AllocError>
+        ensures { self.new ≡ self.old }
+    {
+        self.keys.reserve(elements)
+    }
+
     /// Adds an element to the last table. After want of memory nothing has changed.
     pub fn add(&mut self, key: i64, values: &[Value]) -> Result<(), AllocError>
         requires table { 0 < self.old.tables }

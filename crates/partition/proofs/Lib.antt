@@ -7,3 +7,4 @@ pub mod DealingFacts
 pub mod PartFacts
 pub mod ReadFacts
 pub mod ChainFacts
+pub mod StandFacts

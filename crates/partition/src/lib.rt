@@ -6,7 +6,8 @@
 //! different parts.
 //!
 //! A contract sees a `Part` as a `MachinePart` (specs/Parts.antt). `split` gives exactly the parts that the
-//! definition filters out of the graph's lists (`PartsMeet`), and each reader tells exactly what it names.
+//! definition filters out of the graph's lists (`PartsMeet`), and each reader tells exactly what it names. That these
+//! parts together are the graph is a law (`laws::parts_are_the_graph`).
 //!
 //! The edges are dealt out once for all machines: one pass in each direction leaves at each vertex its first edge
 //! and at each edge the next of the same vertex (`Chains`), and the lists are filled along these. A list keeps 16
@@ -24,6 +25,7 @@ mod adjacent;
 mod chains;
 mod dealing;
 mod fault;
+pub mod laws;
 mod link;
 mod lists;
 mod owner;

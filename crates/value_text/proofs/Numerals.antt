@@ -1,8 +1,9 @@
 -- What an int cell says, against what `parse` says.
-use Rattle.std.proofs.Common.{◌≡◌, refl, arith, ◌<◌, ◌+◌, ◌-◌, ◌*◌, ◌^◌, ◌++◌, take, slice_index, ℕ, zero, suc, Bool, true, false, cond, ◌&&◌, ◌==◌, drop, ap, List, [], ◌∷◌, length, ℤ, pos, negsuc, Some, None, Ok, Err, Result, nat_lt, w64, IsUtf8}
+use Rattle.std.proofs.Common.{◌≡◌, ◌≤◌, lit<, refl, arith, ◌<◌, ◌+◌, ◌-◌, ◌*◌, ◌^◌, ◌++◌, take, slice_index, ℕ, zero, suc, Bool, true, false, cond, ◌&&◌, ◌==◌, drop, ap, List, [], ◌∷◌, length, ℤ, pos, negsuc, Some, None, Ok, Err, Result, nat_lt, w64, IsUtf8}
 use Rattle.std.proofs.lemmas.Bool.{false≢true}
-use Rattle.std.proofs.lemmas.Int.Digits.{digits_value_push}
-use Rattle.std.proofs.lemmas.List.{take_more}
+use Rattle.std.proofs.lemmas.Int.Digits.{digits_value-lt, digits_value_push}
+use Rattle.std.proofs.lemmas.List.{length-take, take_more}
+use Rattle.std.proofs.Math.Nat.{pow-le-pow_right}
 use Rattle.std.proofs.lemmas.Bool.Decides.{nat_tests}
 use Rattle.std.proofs.lemmas.Fmt.{IsAscii-from_digits, decimal_is_IsNumeral}
 use Rattle.std.proofs.lemmas.Str.{IsUtf8-from_ascii}
@@ -143,10 +144,12 @@ module _ (cell : List ℕ) (i : ℕ) (less : i < length cell) (digit : is_ascii_
   value_more number is =
       rw (take_more cell i 0 less, digits_value_push 10 (take i cell) (slice_index cell i), digit_is (slice_index cell i) digit, is) refl
 
--- a cell of digits alone is their number
-pub plain_is : (cell : List ℕ) → 0 < length cell → list_all is_ascii_digit cell ≡ true → digits_value 10 cell < 2 ^ 63 → Ok (pos (digits_value 10 cell)) ≡ int_cell cell
-plain_is cell some all small =
-    let own : IsNumeral 10 cell = (some, digits cell all) in
-    let bare = no_sign cell own in
-    let fits : nat_lt (digits_value 10 cell) (2 ^ 63) ≡ true = grind (arith, nat_tests) in
-    rw (bare.0, bare.1, is_numeral-back cell own, fits) refl
+-- few digits are a small number
+few_digits : (ds : List ℕ) (most : ℕ) → length ds ≤ most → list_all is_ascii_digit ds ≡ true → digits_value 10 ds < 10 ^ most
+few_digits ds most few all =
+    let bound = digits_value-lt 10 ds (digits ds all) in
+    let more : 10 ^ length ds ≤ 10 ^ most = pow-le-pow_right (lit< tt) few in
+    omega (arith, bound, more)
+
+pub few_taken : (cell : List ℕ) (i most : ℕ) → i ≤ most → list_all is_ascii_digit (take i cell) ≡ true → digits_value 10 (take i cell) < 10 ^ most
+few_taken cell i most few all = few_digits (take i cell) most (omega (arith, length-take i cell, few)) all

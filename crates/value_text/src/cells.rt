@@ -58,24 +58,28 @@ fn has_digits(digits: &[u8]) -> bool
     !digits.is_empty() && all_digits(digits)
 }
 
-/// The most that a number of plain digits may be before its last digit.
-const MOST_BEFORE: u64 = 100_000_000_000_000_000;
+/// How many digits a number has at most that surely fits.
+const MOST_DIGITS: usize = 18;
 
-// The number of a cell of decimal digits alone, which isn't too great. Nearly every cell of numbers is one.
+// The number of a cell of so many decimal digits at most, and nothing else. Nearly every cell of numbers is one.
 fn plain(cell: &[u8]) -> Option<i64>
     ensures { IfSome result (λ number. Ok number ≡ int_cell cell.now) }
 {
-    if cell.is_empty() {
+    if cell.len() > MOST_DIGITS {
         return None;
     }
     let mut number: u64 = 0;
     for byte in cell {
-        if !byte.is_ascii_digit() || number > MOST_BEFORE {
+        if !byte.is_ascii_digit() {
             return None;
         }
         number = number * 10 + u64::from(*byte - b'0');
     }
-    Some(number as i64)
+    if !cell.is_empty() {
+        Some(number as i64)
+    } else {
+        None
+    }
 }
 
 // The number of a cell, where it holds one that i64 has.

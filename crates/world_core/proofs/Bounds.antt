@@ -33,7 +33,7 @@ use Rattle.world_core.proofs.Starts.{start-sound, start-fits}
 
 -- ---- sums of what is smaller
 -- what is no more at each place is no more in all
-sum-le : {A : Type 0} (f g : A → ℕ) (xs : List A) → ((i : ℕ) (x : A) → slice_get xs i ≡ Some x → f x ≤ g x) → total f xs ≤ total g xs
+pub sum-le : {A : Type 0} (f g : A → ℕ) (xs : List A) → ((i : ℕ) (x : A) → slice_get xs i ≡ Some x → f x ≤ g x) → total f xs ≤ total g xs
 sum-le f g [] each = omega arith
 sum-le f g (x ∷ xs) each =
     let first = each 0 x refl in
@@ -230,7 +230,7 @@ one-home (suc n) x low = go (eqb x n) refl (one-home n x)
     go true e before = let here : one (eqb x n) ≡ 1 = ap one e in omega arith
     go false e before = let found = before (lower x n low (eqb-false x n e)) in omega arith
 
-sum-same : {A : Type 0} (f g : A → ℕ) (xs : List A) → ((x : A) → f x ≡ g x) → total f xs ≡ total g xs
+pub sum-same : {A : Type 0} (f g : A → ℕ) (xs : List A) → ((x : A) → f x ≡ g x) → total f xs ≡ total g xs
 sum-same f g [] each = refl
 sum-same f g (x ∷ xs) each = let first = each x in let rest = sum-same f g xs each in omega arith
 

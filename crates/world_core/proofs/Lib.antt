@@ -14,6 +14,7 @@ pub mod Past
 pub mod Starts
 pub mod Steps
 pub mod Travels
+pub mod Turns
 pub mod Weighs
 pub mod Words
 pub mod Works

@@ -7,5 +7,6 @@ pub mod Rows
 pub mod Sound
 pub mod Step
 pub mod Stepped
+pub mod Turns
 pub mod Work
 pub mod World
