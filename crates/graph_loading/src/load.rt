@@ -19,6 +19,7 @@ use graph_tables::{
     ElementKind, Graph, Loading, Place, Quantity, TableFault, TableKind, TableLine, file_fault,
     heading, read_manifest,
 };
+use memchr::memchr_iter;
 use std::alloc::Global;
 
 // What a load's answer means for a file, of which these bytes were read.
@@ -165,7 +166,7 @@ fn make_room(of: ElementKind, bytes: &[u8], loading: &mut Loading) -> Result<(),
     ensures same { loading.new ≡ loading.old }
     ensures memory { IfErr result (λ e. e ≡ fault_of 0 TableKind.NoMemory) }
 {
-    let lines = bytes.iter().filter(|b| **b == b'\n').count();
+    let lines = memchr_iter(b'\n', bytes).count();
     match of {
         ElementKind::Vertex => loading.vertices.reserve(lines.min(VERTICES as usize))?,
         ElementKind::Edge => loading.edges.reserve(lines.min(EDGES as usize))?,
