@@ -1,5 +1,4 @@
 mod AstByParts
-mod AstFolds
 mod Cases
 mod Columns
 mod Conjuncts

@@ -14,14 +14,12 @@
 mod build;
 mod capture_set;
 mod captures;
-mod count;
 pub mod expr;
 pub mod fault;
 mod faults;
 mod items;
 mod kinds;
 pub mod laws;
-mod literals;
 mod meaning;
 mod printed;
 pub mod query;
@@ -30,9 +28,9 @@ mod selected;
 mod typing;
 mod uses;
 
-pub use count::literal_count;
 pub use expr::Expr;
 pub use fault::TypeFault;
+pub use literal_texts::literal_count;
 pub use query::{Capture, EdgeJoin, Query, Variable, What};
 pub use typed_query::{passes, value};
 pub use typing::type_query;

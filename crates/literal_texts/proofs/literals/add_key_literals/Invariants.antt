@@ -1,8 +1,8 @@
 use Rattle.std.proofs.Common.{◌≡◌, ◌≤◌, ◌+◌, length, drop}
 use Rattle.std.specs.Prelude.{fold, flat_map}
-use Rattle.typed_expr.specs.Uses.{literals}
+use Rattle.pgql_tree.specs.Literals.{literals}
 use Rattle.value_text.specs.Texts.{Kept, with_text}
-use Rattle.typed_expr.proofs.literals.add_key_literals.Given as goal
+use Rattle.literal_texts.proofs.literals.add_key_literals.Given as goal
 
 abbrev pub invariant-loop-key : goal.invariant-loop-key
 invariant-loop-key l = record {

@@ -1,7 +1,6 @@
 //! How many text literals a query has.
 ghost use Rattle.std.specs.Prelude.{◌≡◌, ◌-◌, ◌^◌, flat_map, length, min};
-ghost use Rattle.typed_expr.specs.Typed.{all_literals, of_condition};
-ghost use Rattle.typed_expr.specs.Uses.{literals};
+ghost use Rattle.pgql_tree.specs.Literals.{condition_literals, literals, query_literals};
 
 use pgql_tree::{Ast, AstExpr, Item, Key};
 
@@ -47,7 +46,7 @@ fn count_in_keys(keys: &[Key]) -> u32
 }
 
 fn count_in_condition(condition: &Option<AstExpr>) -> u32
-    ensures { result ≡ min (length (of_condition literals condition.now)) (2 ^ 32 - 1) }
+    ensures { result ≡ min (length (condition_literals condition.now)) (2 ^ 32 - 1) }
 {
     match condition {
         Some(condition) => count_in(condition),
@@ -57,7 +56,7 @@ fn count_in_condition(condition: &Option<AstExpr>) -> u32
 
 /// How many text literals a tree has, or 2^32 - 1 if it has more.
 pub fn literal_count(ast: &Ast) -> u32
-    ensures { result ≡ min (length (all_literals ast.now)) (2 ^ 32 - 1) }
+    ensures { result ≡ min (length (query_literals ast.now)) (2 ^ 32 - 1) }
 {
     let selected = count_in_items(ast.items.as_slice());
     let tested = count_in_condition(&ast.condition);

@@ -1,10 +1,10 @@
 use Rattle.std.proofs.Common.{◌∙◌, ◌-◌, ◌^◌, length, sym, ap}
 use Rattle.std.specs.Prelude.{min}
 use Rattle.std.proofs.lemmas.List.{length-append}
-use Rattle.typed_expr.specs.Uses.{literals}
-use Rattle.typed_expr.proofs.Cases.{literals-Int, literals-Text, literals-Date, literals-Bool, literals-Name, literals-Property, literals-Id, literals-Label, literals-Not, literals-Neg, literals-IsNull, literals-Binary}
-use Rattle.typed_expr.proofs.Lists.{min-add}
-use Rattle.typed_expr.proofs.count.+count_in.Goals as goal
+use Rattle.pgql_tree.specs.Literals.{literals}
+use Rattle.literal_texts.proofs.Cases.{literals-Int, literals-Text, literals-Date, literals-Bool, literals-Name, literals-Property, literals-Id, literals-Label, literals-Not, literals-Neg, literals-IsNull, literals-Binary}
+use Rattle.literal_texts.proofs.Counts.{min-add}
+use Rattle.literal_texts.proofs.count.+count_in.Goals as goal
 
 pub returns-in-Int : goal.returns-in-Int
 returns-in-Int t c = ap (λ l. min (length l) (2 ^ 32 - 1)) (sym (literals-Int c.args.expr.now c.in-Int.number c.in-Int.at c.in-Int.is))

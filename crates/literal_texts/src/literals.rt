@@ -1,8 +1,7 @@
 //! The texts of literals.
 ghost use Rattle.std.specs.Prelude.{◌≡◌, ◌≤◌, ◌<◌, ◌+◌, ◌-◌, ◌^◌, OnOk, flat_map, fold, length};
 ghost use Rattle.value_text.specs.Texts.{Kept, with_text};
-ghost use Rattle.typed_expr.specs.Typed as spec;
-ghost use Rattle.typed_expr.specs.Uses as uses;
+ghost use Rattle.pgql_tree.specs.Literals.{condition_literals, literals, query_literals};
 
 use adfs_base::NoMemory;
 use pgql_tree::{Ast, AstExpr, Item, Key};
@@ -10,10 +9,10 @@ use value_text::Texts;
 
 // Adds the texts of an expression's text literals.
 fn add_literals(expr: &AstExpr, texts: &mut Texts) -> Result<(), NoMemory>
-    requires { length texts.old + length (uses.literals expr.now) < 2 ^ 32 - 1 }
-    ensures ok { OnOk result (texts.new ≡ fold with_text texts.old (uses.literals expr.now)) }
+    requires { length texts.old + length (literals expr.now) < 2 ^ 32 - 1 }
+    ensures ok { OnOk result (texts.new ≡ fold with_text texts.old (literals expr.now)) }
     ensures kept { Kept texts.old texts.new }
-    ensures room { length texts.new ≤ length texts.old + length (uses.literals expr.now) }
+    ensures room { length texts.new ≤ length texts.old + length (literals expr.now) }
 {
     match expr {
         AstExpr::Text { content, .. } => {
@@ -38,10 +37,10 @@ fn add_literals(expr: &AstExpr, texts: &mut Texts) -> Result<(), NoMemory>
 }
 
 fn add_item_literals(items: &[Item], texts: &mut Texts) -> Result<(), NoMemory>
-    requires { length texts.old + length (flat_map (λ item. uses.literals item.expr) items.now) < 2 ^ 32 - 1 }
-    ensures ok { OnOk result (texts.new ≡ fold with_text texts.old (flat_map (λ item. uses.literals item.expr) items.now)) }
+    requires { length texts.old + length (flat_map (λ item. literals item.expr) items.now) < 2 ^ 32 - 1 }
+    ensures ok { OnOk result (texts.new ≡ fold with_text texts.old (flat_map (λ item. literals item.expr) items.now)) }
     ensures kept { Kept texts.old texts.new }
-    ensures room { length texts.new ≤ length texts.old + length (flat_map (λ item. uses.literals item.expr) items.now) }
+    ensures room { length texts.new ≤ length texts.old + length (flat_map (λ item. literals item.expr) items.now) }
 {
     for item in items {
         add_literals(&item.expr, texts)?;
@@ -50,8 +49,8 @@ fn add_item_literals(items: &[Item], texts: &mut Texts) -> Result<(), NoMemory>
 }
 
 fn add_key_literals(keys: &[Key], texts: &mut Texts) -> Result<(), NoMemory>
-    requires { length texts.old + length (flat_map (λ key. uses.literals key.expr) keys.now) < 2 ^ 32 - 1 }
-    ensures ok { OnOk result (texts.new ≡ fold with_text texts.old (flat_map (λ key. uses.literals key.expr) keys.now)) }
+    requires { length texts.old + length (flat_map (λ key. literals key.expr) keys.now) < 2 ^ 32 - 1 }
+    ensures ok { OnOk result (texts.new ≡ fold with_text texts.old (flat_map (λ key. literals key.expr) keys.now)) }
     ensures kept { Kept texts.old texts.new }
 {
     for key in keys {
@@ -61,10 +60,10 @@ fn add_key_literals(keys: &[Key], texts: &mut Texts) -> Result<(), NoMemory>
 }
 
 fn add_condition_literals(condition: &Option<AstExpr>, texts: &mut Texts) -> Result<(), NoMemory>
-    requires { length texts.old + length (spec.of_condition uses.literals condition.now) < 2 ^ 32 - 1 }
-    ensures ok { OnOk result (texts.new ≡ fold with_text texts.old (spec.of_condition uses.literals condition.now)) }
+    requires { length texts.old + length (condition_literals condition.now) < 2 ^ 32 - 1 }
+    ensures ok { OnOk result (texts.new ≡ fold with_text texts.old (condition_literals condition.now)) }
     ensures kept { Kept texts.old texts.new }
-    ensures room { length texts.new ≤ length texts.old + length (spec.of_condition uses.literals condition.now) }
+    ensures room { length texts.new ≤ length texts.old + length (condition_literals condition.now) }
 {
     match condition {
         Some(condition) => add_literals(condition, texts),
@@ -74,8 +73,8 @@ fn add_condition_literals(condition: &Option<AstExpr>, texts: &mut Texts) -> Res
 
 /// Adds the texts of all text literals.
 pub fn add_all_literals(ast: &Ast, texts: &mut Texts) -> Result<(), NoMemory>
-    requires { length texts.old + length (spec.all_literals ast.now) < 2 ^ 32 - 1 }
-    ensures ok { OnOk result (texts.new ≡ fold with_text texts.old (spec.all_literals ast.now)) }
+    requires { length texts.old + length (query_literals ast.now) < 2 ^ 32 - 1 }
+    ensures ok { OnOk result (texts.new ≡ fold with_text texts.old (query_literals ast.now)) }
     ensures kept { Kept texts.old texts.new }
 {
     add_item_literals(ast.items.as_slice(), texts)?;

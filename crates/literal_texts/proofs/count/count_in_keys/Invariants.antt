@@ -1,7 +1,7 @@
 use Rattle.std.proofs.Common.{◌≡◌, ◌≤◌, ◌+◌, ◌-◌, ◌^◌, length, drop}
 use Rattle.std.specs.Prelude.{flat_map, min}
-use Rattle.typed_expr.specs.Uses.{literals}
-use Rattle.typed_expr.proofs.count.count_in_keys.Given as goal
+use Rattle.pgql_tree.specs.Literals.{literals}
+use Rattle.literal_texts.proofs.count.count_in_keys.Given as goal
 
 abbrev pub invariant-loop-key : goal.invariant-loop-key
 invariant-loop-key l = record {

@@ -2,21 +2,20 @@ use Rattle.std.proofs.Common.{◌++◌, sym, arith}
 use Rattle.std.specs.Prelude.{fold, flat_map}
 use Rattle.std.proofs.lemmas.List.Sums.{fold-append}
 use Rattle.value_text.specs.Texts.{with_text}
-use Rattle.typed_expr.specs.Typed.{of_condition}
-use Rattle.typed_expr.specs.Uses.{literals}
-use Rattle.typed_expr.proofs.Wholes.{length-of_all}
-use Rattle.typed_expr.proofs.literals.add_all_literals.Goals as goal
+use Rattle.pgql_tree.specs.Literals.{condition_literals, literals}
+use Rattle.literal_texts.proofs.Cases.{length-query}
+use Rattle.literal_texts.proofs.literals.add_all_literals.Goals as goal
 
 pub add_condition_literals-requires : goal.add_condition_literals-requires
 add_condition_literals-requires c =
-    let all = length-of_all literals c.args.ast.now in
+    let all = length-query c.args.ast.now in
     let few = c.requires in
     let room = rw c.as_slice.ensures at c.in_ok-add_item_literals.ensures.room in
     omega arith
 
 pub add_key_literals-requires : goal.add_key_literals-requires
 add_key_literals-requires c =
-    let all = length-of_all literals c.args.ast.now in
+    let all = length-query c.args.ast.now in
     let few = c.requires in
     let room = rw c.as_slice.ensures at c.in_ok-add_item_literals.ensures.room in
     let more = c.in_ok-add_condition_literals.ensures.room in
@@ -25,7 +24,7 @@ add_key_literals-requires c =
 pub returns-clause-ok : goal.returns-clause-ok
 returns-clause-ok c =
     let items = flat_map (λ item. literals item.expr) c.args.ast.now.items in
-    let condition = of_condition literals c.args.ast.now.condition in
+    let condition = condition_literals c.args.ast.now.condition in
     let keys = flat_map (λ key. literals key.expr) c.args.ast.now.keys in
     rw (
       fold-append with_text c.args.texts.now items (condition ++ keys),

@@ -3,9 +3,9 @@ use Rattle.std.specs.Prelude.{fold}
 use Rattle.std.proofs.lemmas.List.{length-append}
 use Rattle.std.proofs.lemmas.List.Sums.{fold-append}
 use Rattle.value_text.specs.Texts.{with_text}
-use Rattle.typed_expr.specs.Uses.{literals}
-use Rattle.typed_expr.proofs.Cases.{literals-Int, literals-Text, literals-Date, literals-Bool, literals-Name, literals-Property, literals-Id, literals-Label, literals-Not, literals-Neg, literals-IsNull, literals-Binary}
-use Rattle.typed_expr.proofs.literals.+add_literals.Goals as goal
+use Rattle.pgql_tree.specs.Literals.{literals}
+use Rattle.literal_texts.proofs.Cases.{literals-Int, literals-Text, literals-Date, literals-Bool, literals-Name, literals-Property, literals-Id, literals-Label, literals-Not, literals-Neg, literals-IsNull, literals-Binary}
+use Rattle.literal_texts.proofs.literals.+add_literals.Goals as goal
 use Rattle.pgql_tree.specs.declared.ast.AstExpr.{AstExpr}
 use Rattle.pgql_tree.specs.declared.ast.AstExpr.TheVariants as ast
 use Rattle.pgql_tree.specs.declared.ast.AstExpr.TheViews.{sized-Binary, sized-IsNull, sized-Neg, sized-Not}
