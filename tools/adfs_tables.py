@@ -3,7 +3,9 @@ import csv
 import datetime
 import os
 import re
+import sys
 
+KEYS = {'vertices': ['id'], 'edges': ['id', 'source', 'target']}
 NAME = re.compile(r'[A-Za-z_][A-Za-z0-9_]*')
 MOST = 2 ** 63
 
@@ -40,6 +42,19 @@ def type_of(cells):
     return 'text'
 
 
+def distinct(names, taken):
+    """The names, each with a number behind it where it would stand a second time among them and those that are taken."""
+    seen, found = set(taken), []
+    for name in names:
+        whole, number = name, 1
+        while whole in seen:
+            number += 1
+            whole = f'{name}_{number}'
+        seen.add(whole)
+        found.append(whole)
+    return found
+
+
 class Keys:
     """Whole numbers for the texts by which others name vertices, from 1 in the order in which they come."""
 
@@ -56,15 +71,22 @@ class Graph:
     def __init__(self, folder):
         self.folder = folder
         self.lines = {'vertices': [], 'edges': []}
+        self.types = {'vertices': {}, 'edges': {}}
         os.makedirs(folder, exist_ok=True)
 
-    def table(self, kind, label, header, rows):
+    def table(self, kind, label, properties, rows):
+        """Writes a table of elements. A property is a name and a type; a row has the keys and then a cell for each property."""
+        names = distinct([name_of(name) for name, _ in properties], KEYS[kind])
+        for name, (_, of) in zip(names, properties):
+            earlier = self.types[kind].setdefault(name, of)
+            if earlier != of:
+                sys.exit(f'{label}: {name} is {of} here and {earlier} in an earlier table, and a property has one type')
         taken = {line.rpartition('/')[2] for lines in self.lines.values() for line in lines}
         file, number = f'{label}.csv', 1
         while file in taken or file == 'keys.csv':
             number += 1
             file = f'{label}_{number}.csv'
-        self.write(file, header, rows)
+        self.write(file, [*(f'{key}:int' for key in KEYS[kind]), *(f'{name}:{of}' for name, (_, of) in zip(names, properties))], rows)
         self.lines[kind].append(f'{kind} {label} {os.path.join(self.folder, file)}')
 
     def write(self, file, header, rows):

@@ -158,9 +158,11 @@ def reply_record(raw, at):
 
 
 def replies(raw):
-    """The replies of a run in order: ('rows', n, columns, rows) or ('refused', n, code, name, the words after it).
+    """The replies of a run in order: ('rows', n, columns, rows), ('refused', n, code, name, the words after it) or, from the
+    command `plan`, ('plan', n, its lines).
 
-    A reply is read as its R records and not as lines: a text may hold a line feed, and a row may look like a refusal."""
+    A reply is read as its R records and not as lines: a text may hold a line feed, and a row may look like a refusal. A
+    line of a plan begins with a number."""
     at = 0
     while at < len(raw):
         end = raw.find(b'\n', at)
@@ -178,6 +180,10 @@ def replies(raw):
                 row, at = reply_record(raw, at)
                 rows.append(row)
             yield 'rows', int(words[1]), columns, rows
+        elif words[2] == 'stages':
+            end = raw.find(b'\nquery ', at - 1) + 1 or len(raw)
+            yield 'plan', int(words[1]), raw[at:end]
+            at = end
         elif words[2] == 'refused' and len(words) > 4:
             yield 'refused', int(words[1]), int(words[3]), words[4], words[5:]
         else:

@@ -1,3 +1,1 @@
-pub mod FileFacts
-pub mod Steps
-pub mod WordFacts
+pub mod Ends

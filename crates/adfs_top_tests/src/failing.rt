@@ -1,4 +1,4 @@
-// Runs whose nth load or nth put fails, and what they come to.
+//! Runs whose nth load or nth put fails, and what they come to.
 use adfs_base::{MemSink, MemStore, Name, NoMemory};
 use adfs_top::adfs_run_serial;
 use std::alloc::Global;

@@ -1,3 +1,4 @@
+//! A row of an answer.
 ghost use Rattle.std.specs.Prelude.{◌≡◌};
 
 use adfs_base::Value;

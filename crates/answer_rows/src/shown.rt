@@ -1,3 +1,4 @@
+//! A match of a pattern, by what it shows.
 ghost use Rattle.std.specs.Prelude.{◌≡◌};
 
 use crate::Row;

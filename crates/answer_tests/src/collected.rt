@@ -1,4 +1,4 @@
-// Rows from contexts, in whatever order these come.
+//! Rows from contexts, in whatever order these come.
 use adfs_base::{CONTEXT_WORDS, MemStore, Name, NoMemory, Value};
 use answer_rows::Row;
 use graph_loading::load_graph;

@@ -1,4 +1,4 @@
-// Lists in order.
+//! Lists in order.
 use sorted_lists::sort_by;
 use std::test::Fail;
 

@@ -1,3 +1,4 @@
+//! What picks one of the tries.
 ghost use Rattle.std.specs.Prelude.{◌≡◌, ℕ, ◌<◌, ◌%◌};
 
 /// What a policy is shown before it chooses.

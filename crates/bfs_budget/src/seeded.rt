@@ -1,3 +1,4 @@
+//! The policy that draws by a seed.
 ghost use Rattle.std.specs.Prelude.{◌≡◌, ◌%◌, ◌^◌};
 ghost use Rattle.seeded_draws.specs.Draws.{draw, next_state};
 

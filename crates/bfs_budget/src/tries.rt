@@ -1,3 +1,4 @@
+//! What a worker may try in a turn, in its order.
 ghost use Rattle.std.specs.Prelude.{◌≡◌, ◌+◌, ◌<◌, ◌≤◌, [], ◌∷◌, ◌++◌, length};
 ghost use Rattle.bfs_budget.specs.Tries.{actions_of, only_if, unoccupied_actions, waiting_actions};
 

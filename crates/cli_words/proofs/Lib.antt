@@ -7,6 +7,7 @@ pub mod LineRules
 pub mod LongWords
 pub mod Numbers
 pub mod PlainValues
+pub mod Ranges
 pub mod Refusals
 pub mod RowsFound
 pub mod SameWalk

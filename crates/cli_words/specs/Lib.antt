@@ -6,6 +6,7 @@ pub mod Form
 pub mod Help
 pub mod Laws
 pub mod Line
+pub mod Ranges
 pub mod Rows
 pub mod Said
 pub mod Taken

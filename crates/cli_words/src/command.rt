@@ -1,3 +1,4 @@
+//! The commands, each with its name, its file words and its options.
 ghost use Rattle.std.specs.Prelude.{◌≡◌};
 ghost use Rattle.cli_words.specs.Rows.{command_name, command_named, file_words_of, settings_of};
 

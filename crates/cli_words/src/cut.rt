@@ -1,3 +1,4 @@
+//! A word cut in two at the first of a character.
 ghost use Rattle.std.specs.Prelude.{◌≡◌, Option};
 ghost use Rattle.std.specs.Option.{option_map};
 ghost use Rattle.cli_words.specs.Values.{cut_at};

@@ -1,3 +1,4 @@
+//! What a word that is no option must be.
 ghost use Rattle.std.specs.Prelude.{◌≡◌, IfOk, IsSome, Some, option_map};
 ghost use Rattle.clap.specs.Words.{first_of, found_of, rows_of};
 ghost use Rattle.cli_words.specs.Bare.{blank};

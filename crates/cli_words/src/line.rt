@@ -1,3 +1,4 @@
+//! A command as `clap` is told of it.
 ghost use Rattle.std.specs.Prelude.{◌≡◌, IfOk, fold, map};
 ghost use Rattle.clap.specs.Words.{app_of, with_rule};
 ghost use Rattle.cli_words.specs.Line.{file_rule, line_of, option_rule};

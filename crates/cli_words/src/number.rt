@@ -1,3 +1,4 @@
+//! Numbers in decimal digits, within their ranges.
 ghost use Rattle.std.specs.Prelude.{◌≡◌, ◌*◌, IsSome, Some, is_some, nat_le};
 ghost use Rattle.std.specs.List.{list_all};
 ghost use Rattle.std.specs.Char.{is_ascii_digit};

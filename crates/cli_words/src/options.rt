@@ -1,3 +1,4 @@
+//! What a command line asks for.
 ghost use Rattle.std.specs.Prelude.{◌≡◌, ◌++◌, ◌∷◌, [], OnOk};
 ghost use Rattle.cli_words.specs.Defaults.{options_at_first};
 

@@ -1,3 +1,4 @@
+//! The value of `--part`.
 ghost use Rattle.std.specs.Prelude.{◌≡◌, IfOk, IsSome, Some, is_some};
 ghost use Rattle.std.specs.Option.{option_map};
 ghost use Rattle.cli_words.specs.Values.{part_of, listed_of};

@@ -1,3 +1,4 @@
+//! From words to options.
 ghost use Rattle.std.specs.Prelude.{◌≡◌, ◌≤◌, IfOk, map};
 ghost use Rattle.std.specs.String.{string_bytes};
 ghost use Rattle.cli_words.specs.Bare.{refusal};
@@ -5,6 +6,7 @@ ghost use Rattle.cli_words.specs.Form.{options_of, read_on};
 ghost use Rattle.cli_words.specs.Said.{to_come};
 ghost use Rattle.cli_words.specs.Fault.{GivesOptions};
 ghost use Rattle.cli_words.specs.Files.{HasItsFiles};
+ghost use Rattle.cli_words.specs.Ranges.{IsWithinLimits};
 
 use crate::command::command_named;
 use crate::options::Options;
@@ -35,6 +37,7 @@ pub enum UsageFault {
 pub fn read_words(alloc: Global, words: &[String]) -> Result<Options, UsageFault>
     ensures gives { GivesOptions result (options_of (map string_bytes words.now)) }
     ensures files { IfOk result HasItsFiles }
+    ensures limits { IfOk result IsWithinLimits }
 {
     let [first, rest @ ..] = words else {
         return Err(UsageFault::Word(0));

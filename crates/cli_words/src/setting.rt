@@ -1,3 +1,4 @@
+//! The options, each with its name and its range.
 ghost use Rattle.std.specs.Prelude.{◌≡◌, IfOk, IsSome, Some, is_some, option_map};
 ghost use Rattle.clap.specs.Words.{first_of, found_of, rows_of};
 ghost use Rattle.cli_words.specs.Line.{long_name};

@@ -1,3 +1,4 @@
+//! From what `clap` found to options.
 ghost use Rattle.std.specs.Prelude.{◌≡◌, IfOk, IsOk, IsSome, Ok, Some, drop, map, option_map, true};
 ghost use Rattle.std.specs.String.{string_bytes};
 ghost use Rattle.clap.specs.Words.{found_of, matches_of, rows_of, takes};

@@ -1,3 +1,4 @@
+//! The help text.
 ghost use Rattle.std.specs.Prelude.{◌≡◌, IfOk};
 ghost use Rattle.cli_words.specs.Help.{help_text};
 

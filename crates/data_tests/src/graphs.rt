@@ -1,4 +1,4 @@
-// A graph of three files reads back, and a load that fails is told of its file.
+//! A graph of three files reads back, and a load that fails is told of its file.
 use adfs_base::{Kind, MemStore, Name, NoMemory, Value};
 use graph_loading::load_graph;
 use graph_tables::{Graph, Schema, TableFault, TableKind};

@@ -1,4 +1,4 @@
-// The parts of a small graph by each owner, as a text of all their lists.
+//! The parts of a small graph by each owner, as a text of all their lists.
 ghost use Rattle.std.specs.Prelude.{ℕ, ◌<◌, ◌≤◌, length};
 ghost use Rattle.partition.specs.Owners.{IsOwner};
 

@@ -1,4 +1,4 @@
-// Values from outside: days by their numbers, texts by theirs, what cells are written back as, and the order.
+//! Values from outside: days by their numbers, texts by theirs, and what cells are written back as.
 use adfs_base::{Kind, NoMemory, Value};
 use std::alloc::Global;
 use std::cmp::Ordering;

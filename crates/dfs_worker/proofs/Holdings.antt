@@ -69,7 +69,7 @@ fits-with agrees shape roots tree v v' f f' y h same worker self within holds ag
   within = rw self.machine within;
   tree_fits = rw self.shape h.tree_fits;
   same_shape = same.same_shape ∙ h.same_shape ∙ sym self.shape;
-  same_roots = λ m. same.same_roots m ∙ h.same_roots m;
+  same_roots = λ m low. same.same_roots m ∙ h.same_roots m (let e = ap (λ (s : Extents). s.machines) self.shape in omega arith);
   holding = y;
   holds = holds;
   agreed = rw self.number agreed;

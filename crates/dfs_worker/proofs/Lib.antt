@@ -14,3 +14,5 @@ pub mod Starting
 pub mod Looking
 pub mod Sweeps
 pub mod Rounds
+pub mod Firsts
+pub mod Fresh

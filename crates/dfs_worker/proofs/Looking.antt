@@ -176,7 +176,7 @@ none-true zero i = refl
 none-true (suc n) zero = refl
 none-true (suc n) (suc i) = none-true n i
 
-unmarked-none : (machines stages stage : ℕ) (word : Word) → is_marked (unmarked machines stages stage) word ≡ false
+pub unmarked-none : (machines stages stage : ℕ) (word : Word) → is_marked (unmarked machines stages stage) word ≡ false
 unmarked-none machines stages stage word =
     and-false (is_word (unmarked machines stages stage) word) _ (none-true (words_of machines stages stage) (place_of machines word))
 

@@ -42,7 +42,7 @@ chunk-within : {F : Type 0} (agrees : F → ℕ → Holding → Type 0) (shape :
     Fits agrees shape roots tree v f → (first < end) × (end ≤ roots f (machine_in (shape f) v.number)) → end ≤ tree.roots v.machine
 chunk-within agrees shape roots tree v f first end h given =
     let here : machine_in (shape f) v.number ≡ v.machine = ap (λ s. machine_in s v.number) h.same_shape ∙ sym h.number in
-    let same : roots f (machine_in (shape f) v.number) ≡ tree.roots v.machine = h.same_roots (machine_in (shape f) v.number) ∙ ap tree.roots here in
+    let same : roots f (machine_in (shape f) v.number) ≡ tree.roots v.machine = h.same_roots (machine_in (shape f) v.number) (let low = h.worker.machine in omega arith) ∙ ap tree.roots here in
     let le = given.1 in
     omega arith
 

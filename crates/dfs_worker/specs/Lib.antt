@@ -7,3 +7,4 @@ pub mod Guards
 pub mod Census
 pub mod Weight
 pub mod Turn
+pub mod Plainly

@@ -444,7 +444,7 @@ pub record Fits {F : Type 0} (agrees : F → ℕ → Holding → Type 0) (shape 
   pub within : WithinRoots (tree.roots v.machine) v.stack
   pub tree_fits : TreeFits tree v.shape
   pub same_shape : shape f ≡ v.shape
-  pub same_roots : (machine : ℕ) → roots f machine ≡ tree.roots machine
+  pub same_roots : (machine : ℕ) → machine < v.shape.machines → roots f machine ≡ tree.roots machine
   pub holding : Holding
   pub holds : Holds v holding
   pub agreed : agrees f v.number holding

@@ -1,3 +1,5 @@
+//! The events: one step of one worker each.
+
 /// One step of one worker, by the numbers that a trace writes. The worker is `w`.
 #[derive(Clone, Copy, Debug, PartialEq, Eq)]
 pub enum Event {

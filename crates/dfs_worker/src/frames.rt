@@ -1,3 +1,4 @@
+//! One answer of a frame, made in place.
 ghost use Rattle.std.specs.Prelude.{◌≡◌, ◌+◌, ◌<◌, ◌≤◌, length, vec_len, vec_capacity, OnOk, OnErr, IfOk, Some, None, if◌then◌else◌};
 ghost use Rattle.dfs_worker.specs.Own.{ended, stepped, rows_with, answer_at, IsRow, frame_if};
 ghost use Rattle.dfs_worker.specs.Sound.{RestFits};

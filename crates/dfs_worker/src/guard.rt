@@ -1,3 +1,5 @@
+//! What an event may lack.
+
 /// What an event may lack, in the order of the numbers 1 to 17.
 #[derive(Clone, Copy, Debug, PartialEq, Eq)]
 pub enum Guard {

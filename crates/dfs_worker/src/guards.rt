@@ -1,3 +1,4 @@
+//! The guards of each event that look at the worker alone.
 ghost use Rattle.std.specs.Prelude.{◌≡◌, Some, None, if◌then◌else◌};
 ghost use Rattle.dfs_worker.specs.Guards.{own_guard, start_guard, top_over, waits, is_charged, is_posted, is_popped, is_emptied};
 ghost use Rattle.dfs_worker.specs.Sound.{IsWorker};

@@ -1,3 +1,4 @@
+//! What a worker holds between the two steps of one move.
 use match_context::Message;
 
 /// What a worker is in the midst of. Every step between two calls on what is shared leaves something in its hand.

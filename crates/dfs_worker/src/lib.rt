@@ -21,7 +21,8 @@
 //!
 //! `Worker::turn` makes one step over any `Fabric`: of what its state lets it try, in the order of `bfs_budget::actions`, begun
 //! where its policy says and gone round once, the first that is ready (`TookTurn`, specs/Turn.antt). It is idle only where
-//! each of these was barred by the worker's own guards or excused by the fabric. What it asks for, `Fits`, holds again
+//! each of these was barred by the worker's own guards or excused by the fabric; over plain tables exactly where none of
+//! them is enabled (`laws`). What it asks for, `Fits`, holds again
 //! after it. Only `new` and a row take memory.
 #![tactic(auto)]
 
@@ -32,6 +33,7 @@ mod frames;
 mod guard;
 mod guards;
 mod hand;
+pub mod laws;
 mod looks;
 mod outbox;
 mod stack;

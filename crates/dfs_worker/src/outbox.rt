@@ -1,3 +1,4 @@
+//! A worker's open buffers, by stage and machine.
 ghost use Rattle.std.specs.Prelude.{◌≡◌, ◌<◌, ◌&&◌, nat_lt, length, Some, None, IfOk, MatchOption, true, replicate};
 ghost use Rattle.dfs_worker.specs.Slots.{slot_of};
 

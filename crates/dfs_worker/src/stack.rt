@@ -1,3 +1,4 @@
+//! A worker's stack of frames.
 ghost use Rattle.std.specs.Prelude.{◌≡◌, ◌<◌, ◌≤◌, ◌↔◌, [], ◌∷◌, length, reverse, vec_len, vec_capacity, OnOk, OnErr, IfOk, IfSome, IfNone, MatchOption, IsTrue, Some, None};
 ghost use Rattle.dfs_worker.specs.State.{next_stage};
 ghost use Rattle.dfs_worker.specs.Own.{frames_after, rows_after, AddsRow};

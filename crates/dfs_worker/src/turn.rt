@@ -1,3 +1,4 @@
+//! What a turn comes to.
 use crate::event::Event;
 
 /// What a turn answers.

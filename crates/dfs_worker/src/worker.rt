@@ -1,3 +1,4 @@
+//! A worker, and its own part of each event.
 ghost use Rattle.std.specs.Prelude.{◌≡◌, ◌<◌, ◌≤◌, ◌*◌, ◌/◌, ◌++◌, [], ◌∷◌, reverse, length, IfOk, IfSome, IsSomeAnd, IfNone, OnOk, OnErr, MatchOption, Some, None, true};
 
 use crate::hand::Hand;

@@ -1,5 +1,6 @@
 -- Elements as keys and rows side by side.
-use Rattle.std.proofs.Common.{◌≡◌, ◌∙◌, sym, ap, refl, arith, ◌<◌, ◌+◌, ℕ, zero, suc, ℤ, List, [], ◌∷◌, ◌++◌, length, slice_get, slice_index_or, slice_set, ◌-◌, pos, Some, length-append}
+use Rattle.std.proofs.Common.{◌≡◌, ◌∙◌, sym, ap, refl, arith, ◌+◌, ℕ, zero, suc, ℤ, List, [], ◌∷◌, ◌++◌, length, slice_get, slice_index_or, slice_set, ◌-◌, Some, length-append}
+use Rattle.std.specs.Option.{option_map}
 use Rattle.std.proofs.lemmas.List.Sums.{sum_by-append}
 use Rattle.std.specs.List.{flat_map}
 use Rattle.std.proofs.lemmas.List.{length-set}
@@ -36,15 +37,35 @@ joined-get (l ∷ ks) (s ∷ rs) (suc i) k r e f = joined-get ks rs i k r e f
 pub cells_in-push : (es : List Element) (e : Element) → cells_in (es ++ e ∷ []) ≡ cells_in es + length e.values
 cells_in-push es e = sum_by-append (λ (x : Element). length x.values) es (e ∷ []) ∙ omega arith
 
--- an element, by its key and its table's row
-pub element_read : (ks : List ℤ) (ts : List Rows) (number : ℕ) (t : Rows) → length (flat_map labelled ts) ≡ length ks → number < length ks → HasElement ts number t
-    → slice_get (joined ks (flat_map labelled ts)) number
-    ≡ Some (record { key = slice_index_or ks number (pos 0); label = t.label; values = named t.columns (slice_index_or t.rows (number - t.first) []) })
-element_read ks ts number t e h has =
+-- what an element has besides its key, by its table's row
+pub row_read : (ts : List Rows) (number : ℕ) (t : Rows) → HasElement ts number t
+    → slice_get (flat_map labelled ts) number ≡ Some (t.label, named t.columns (slice_index_or t.rows (number - t.first) []))
+row_read ts number t has =
     let row = slice_get-map (λ (r : List Cell). (t.label, named t.columns r)) t.rows (number - t.first) in
     let there = slice_get-get_or t.rows (number - t.first) [] has.1 in
-    joined-get ks (flat_map labelled ts) number (slice_index_or ks number (pos 0)) (t.label, named t.columns (slice_index_or t.rows (number - t.first) []))
-    (slice_get-get_or ks number (pos 0) h) (has.2 ∙ row ∙ rw there refl)
+    has.2 ∙ row ∙ rw there refl
+
+-- an element, by what is read of it
+pub joined_key : (ks : List ℤ) (rs : List (ℕ × List (ℕ × Cell))) (i : ℕ) (k : ℤ) → length rs ≡ length ks → slice_get ks i ≡ Some k
+    → option_map (λ (e : Element). e.key) (slice_get (joined ks rs) i) ≡ Some k
+joined_key [] rs i k size at = cc at
+joined_key (l ∷ ks) [] i k size at = absurd (omega arith)
+joined_key (l ∷ ks) (r ∷ rs) zero k size at = at
+joined_key (l ∷ ks) (r ∷ rs) (suc i) k size at = joined_key ks rs i k (omega arith) at
+
+pub joined_rest : {V : Type 0} (f : ℕ × List (ℕ × Cell) → V) (ks : List ℤ) (rs : List (ℕ × List (ℕ × Cell))) (i : ℕ) (v : V) → length rs ≡ length ks
+    → option_map f (slice_get rs i) ≡ Some v → option_map (λ (e : Element). f (e.label, e.values)) (slice_get (joined ks rs) i) ≡ Some v
+joined_rest f ks [] i v size at = cc at
+joined_rest f [] (r ∷ rs) i v size at = absurd (omega arith)
+joined_rest f (k ∷ ks) (r ∷ rs) zero v size at = at
+joined_rest f (k ∷ ks) (r ∷ rs) (suc i) v size at = joined_rest f ks rs i v (omega arith) at
+
+pub joined_both : (ks : List ℤ) (rs : List (ℕ × List (ℕ × Cell))) (i : ℕ) (k : ℤ) (l : ℕ) → length rs ≡ length ks → slice_get ks i ≡ Some k → option_map (λ (r : ℕ × List (ℕ × Cell)). r.0) (slice_get rs i) ≡ Some l
+    → option_map {U = ℤ × ℕ} (λ (e : Element). (e.key, e.label)) (slice_get (joined ks rs) i) ≡ Some (k, l)
+joined_both [] rs i k l size at there = cc at
+joined_both (m ∷ ks) [] i k l size at there = cc there
+joined_both (m ∷ ks) (r ∷ rs) zero k l size at there = let a : m ≡ k = cc at in let b : r.0 ≡ l = cc there in rw (a, b) refl
+joined_both (m ∷ ks) (r ∷ rs) (suc i) k l size at there = joined_both ks rs i k l (omega arith) at there
 
 -- a table that begins, and a row that is added
 pub filled_after : (ks : List ℤ) (ts : List Rows) (cells k : ℕ) (t : Rows) (key : ℤ) (values : List Cell) → AreFilled ks ts cells → length ts ≡ suc k → t ≡ slice_index_or ts k t

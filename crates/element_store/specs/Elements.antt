@@ -53,6 +53,11 @@ abbrev pub AreStacked : ℕ → List Rows → Type 0
 AreStacked n [] = Unit {0}
 AreStacked n (t ∷ ts) = (t.first ≡ n) × AreStacked (n + length t.rows) ts
 
+-- A row for each key, and the tables in the order of their rows.
+pub record HaveRows (keys : List ℤ) (tables : List Rows) : Type 0 where
+  pub a_row_each : length (flat_map labelled tables) ≡ length keys
+  pub stacked : AreStacked 0 tables
+
 pub record AreFilled (keys : List ℤ) (tables : List Rows) (cells : ℕ) : Type 0 where
   pub a_row_each : length (flat_map labelled tables) ≡ length keys
   pub stacked : AreStacked 0 tables

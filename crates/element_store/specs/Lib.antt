@@ -1,6 +1,5 @@
 pub mod Bits
 pub mod Cells
-pub mod Chosen
 pub mod Columns
 pub mod Elements
 pub mod Tables

@@ -1,7 +1,8 @@
 -- The rows of a table, from its cells.
-use Rattle.std.specs.Prelude.{◌≡◌, ℕ, zero, suc, ◌+◌, List, [], ◌∷◌, length, take, drop, map, Option}
+use Rattle.std.specs.Prelude.{◌≡◌, ℕ, zero, suc, ◌+◌, ◌*◌, List, [], ◌∷◌, length, take, drop, map, Option}
 use Rattle.adfs_base.specs.declared.value.Value.{Value}
-use Rattle.element_store.specs.Columns.{Column, named}
+use Rattle.adfs_base.specs.declared.value.Kind.{Kind}
+use Rattle.element_store.specs.Columns.{AreNear, Column, named}
 use Rattle.element_store.specs.Words.{value_from}
 
 -- what cells say under columns
@@ -31,3 +32,8 @@ pub record Rows : Type 0 where
 -- what the elements of a table have besides their keys
 abbrev pub labelled : Rows → List (ℕ × List (ℕ × Value))
 labelled table = map (λ row. (table.label, named table.columns row)) table.rows
+
+-- What a table keeps: a cell for each column of each row, and its columns where they are sought.
+pub record IsTable (columns : List Column) (slots : List (Option (ℕ × Kind))) (rows : ℕ) (cells : List (Option ℕ)) : Type 0 where
+  pub a_cell_each : length cells ≡ rows * length columns
+  pub near : AreNear slots columns

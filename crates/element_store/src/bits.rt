@@ -9,7 +9,7 @@ use std::marker::Model;
 
 /// A list of truth values, a bit for each.
 #[derive(Drop)]
-pub struct Bits {
+pub(crate) struct Bits {
     words: Vec<u64>,
     len: usize,
 }
@@ -63,7 +63,7 @@ fn set(words: &mut Vec<u64>, i: usize, value: bool)
 }
 
 impl Bits {
-    pub fn new(alloc: Global) -> Bits
+    pub(crate) fn new(alloc: Global) -> Bits
         ensures { result ≡ [] }
     {
         Bits {
@@ -73,14 +73,14 @@ impl Bits {
     }
 
     /// How many values there are.
-    pub fn len(&self) -> usize
+    pub(crate) fn len(&self) -> usize
         ensures { result ≡ length self.now }
     {
         self.len
     }
 
     /// The value at a place.
-    pub fn get(&self, i: usize) -> bool
+    pub(crate) fn get(&self, i: usize) -> bool
         requires { i < length self.now }
         ensures { slice_get self.now i ≡ Some result }
     {
@@ -88,7 +88,7 @@ impl Bits {
     }
 
     /// Adds a value at the end.
-    pub fn push(&mut self, value: bool) -> Result<(), AllocError>
+    pub(crate) fn push(&mut self, value: bool) -> Result<(), AllocError>
         requires { length self.old < 2 ^ 63 }
         ensures ok { OnOk result (self.new ≡ self.old ++ value ∷ []) }
         ensures err { OnErr result (self.new ≡ self.old) }
@@ -100,7 +100,7 @@ impl Bits {
     }
 
     /// Keeps the first values alone.
-    pub fn truncate(&mut self, len: usize)
+    pub(crate) fn truncate(&mut self, len: usize)
         requires { len ≤ length self.old }
         ensures { self.new ≡ take len self.old }
     {

@@ -7,7 +7,7 @@ use std::marker::Model;
 
 /// A list of words, each of which may be missing, seen as a list of options.
 #[derive(Drop)]
-pub struct Cells {
+pub(crate) struct Cells {
     words: Vec<u64>,
     present: Bits,
 }
@@ -25,7 +25,7 @@ impl Model for Cells {
 
 impl Cells {
     /// No words.
-    pub fn new(alloc: Global) -> Cells
+    pub(crate) fn new(alloc: Global) -> Cells
         ensures { result ≡ [] }
     {
         Cells {
@@ -35,7 +35,7 @@ impl Cells {
     }
 
     /// How many words there are, those that are missing among them.
-    pub fn len(&self) -> usize
+    pub(crate) fn len(&self) -> usize
         ensures length { result ≡ length self.now }
         ensures fits { length self.now < 2 ^ 63 }
     {
@@ -43,7 +43,7 @@ impl Cells {
     }
 
     /// The word at a place, if it is there.
-    pub fn get(&self, place: usize) -> Option<u64>
+    pub(crate) fn get(&self, place: usize) -> Option<u64>
         requires { place < length self.now }
         ensures { slice_get self.now place ≡ Some result }
     {
@@ -55,7 +55,7 @@ impl Cells {
     }
 
     /// Adds a word at the end. After want of memory nothing has changed.
-    pub fn push(&mut self, word: Option<u64>) -> Result<(), AllocError>
+    pub(crate) fn push(&mut self, word: Option<u64>) -> Result<(), AllocError>
         ensures ok { OnOk result (self.new ≡ self.old ++ word ∷ []) }
         ensures err { OnErr result (self.new ≡ self.old) }
     {
@@ -69,7 +69,7 @@ impl Cells {
     }
 
     /// Keeps the first words alone.
-    pub fn truncate(&mut self, len: usize)
+    pub(crate) fn truncate(&mut self, len: usize)
         requires { len ≤ length self.old }
         ensures { self.new ≡ take len self.old }
     {

@@ -1,6 +1,6 @@
 //! The columns of a table.
-ghost use Rattle.std.specs.Prelude.{◌≡◌, ◌<◌, ◌^◌, ◌++◌, ◌∷◌, [], IfOk, OnOk, OnErr, None, Some, length, slice_get};
-ghost use Rattle.element_store.specs.Columns.{column_of};
+ghost use Rattle.std.specs.Prelude.{◌≡◌, ◌<◌, ◌^◌, ◌++◌, ◌∷◌, [], OnOk, OnErr, None, Some, length, slice_get};
+ghost use Rattle.element_store.specs.Columns.{column_of, slot_of};
 
 use adfs_base::Kind;
 use indexmap::IndexMap;
@@ -47,6 +47,16 @@ impl Columns {
         self.kinds.get_index_of(&property)
     }
 
+    /// The place and the kind of the column of this property.
+    pub(crate) fn find(&self, property: u32) -> Option<(usize, Kind)>
+        ensures { result ≡ slot_of self.now property }
+    {
+        match self.place_of(property) {
+            Some(place) => Some((place, self.get(place).1)),
+            None => None,
+        }
+    }
+
     /// The property and the kind of the column at a place.
     pub fn get(&self, place: usize) -> (u32, Kind)
         requires { place < length self.now }
@@ -54,6 +64,7 @@ impl Columns {
     {
         match self.kinds.get_index(place) {
             Some((property, kind)) => (*property, *kind),
+            // It doesn't come: the place is a column's.
             None => (0, Kind::Int),
         }
     }
@@ -66,17 +77,5 @@ impl Columns {
     {
         self.kinds.insert(property, kind)?;
         Ok(())
-    }
-
-    /// A copy of the columns.
-    pub fn copied(&self, alloc: Global) -> Result<Columns, AllocError>
-        ensures { IfOk result (λ columns. columns ≡ self.now) }
-    {
-        let mut columns = Columns::new(alloc);
-        for i in 0..self.kinds.len() {
-            let (property, kind) = self.get(i);
-            columns.push(property, kind)?;
-        }
-        Ok(columns)
     }
 }

@@ -1,13 +1,13 @@
 //! The elements of one kind, over all their tables.
-ghost use Rattle.std.specs.Prelude.{◌≡◌, ◌<◌, ◌≤◌, ◌+◌, ◌-◌, ◌^◌, ◌++◌, ◌∷◌, [], OnOk, OnErr, None, Some, length, slice_get};
+ghost use Rattle.std.specs.Prelude.{◌≡◌, ◌<◌, ◌≤◌, ◌+◌, ◌-◌, ◌^◌, ◌++◌, ◌∷◌, [], IfOk, OnOk, OnErr, None, Some, length, slice_get};
 ghost use Rattle.std.specs.Option.{option_map};
 ghost use Rattle.element_store.specs.Columns.{HaveKinds, named, value_of};
-ghost use Rattle.element_store.specs.Chosen.{AreChosen};
-ghost use Rattle.element_store.specs.Elements.{AreStacked, HasElement, cells_in, filled, number_of};
+ghost use Rattle.element_store.specs.Elements.{AreStacked, HasElement, cells_in, number_of};
 ghost use Rattle.element_store.specs.Tables.{labelled};
 ghost use Rattle.std.specs.List.{flat_map};
 
 use crate::columns::Columns;
+use crate::list::ElementList;
 use crate::table::Table;
 use adfs_base::Value;
 use indexmap::IndexSet;
@@ -35,14 +35,33 @@ impl Model for Elements {
     ghost invariant = { λ a. AreFilled a.keys.keys a.tables.items a.cells };
 }
 
-/// The table of an element.
-pub(crate) fn table_of(tables: &[Table], number: u32) -> &Table
+// The table of an element.
+fn table_of(tables: &[Table], number: u32) -> &Table
     requires stacked { AreStacked 0 tables.now }
     requires within { number < length (flat_map labelled tables.now) }
     ensures { HasElement tables.now number result.now }
 {
     let later = tables.partition_point(|table| table.first() <= number);
     &tables[later - 1]
+}
+
+/// The label of an element.
+pub(crate) fn label_at(tables: &[Table], number: u32) -> u32
+    requires stacked { AreStacked 0 tables.now }
+    requires within { number < length (flat_map labelled tables.now) }
+    ensures { option_map (λ r. r.0) (slice_get (flat_map labelled tables.now) number) ≡ Some result }
+{
+    table_of(tables, number).label()
+}
+
+/// The value that an element has of a property; null where its table has no such column.
+pub(crate) fn value_at(tables: &[Table], number: u32, property: u32) -> Value
+    requires stacked { AreStacked 0 tables.now }
+    requires within { number < length (flat_map labelled tables.now) }
+    ensures { option_map (λ r. value_of r.1 property) (slice_get (flat_map labelled tables.now) number) ≡ Some result }
+{
+    let table = table_of(tables, number);
+    table.value(number - table.first(), property)
 }
 
 impl Elements {
@@ -72,14 +91,6 @@ impl Elements {
         self.cells
     }
 
-    /// The keys, and the tables that have the rest.
-    pub(crate) fn parts(&self) -> (&[i64], &[Table])
-        ensures whole { self.now ≡ filled result.0.now result.1.now }
-        ensures rows { AreChosen result.0.now result.1.now }
-    {
-        (self.keys.as_slice(), &self.tables)
-    }
-
     /// The columns of the last table.
     pub fn columns(&self) -> &Columns
         requires { 0 < self.now.tables }
@@ -105,8 +116,7 @@ impl Elements {
         ensures { option_map (λ e. (e.key, e.label)) (slice_get self.now.elements number) ≡ Some result }
     {
         let key = self.keys.as_slice()[number as usize];
-        let table = table_of(&self.tables, number);
-        (key, table.label())
+        (key, label_at(&self.tables, number))
     }
 
     /// The value that an element has of a property; null where its table has no such column.
@@ -114,8 +124,7 @@ impl Elements {
         requires { number < length self.now.elements }
         ensures { option_map (λ e. value_of e.values property) (slice_get self.now.elements number) ≡ Some result }
     {
-        let table = table_of(&self.tables, number);
-        table.value(number - table.first(), property)
+        value_at(&self.tables, number, property)
     }
 
     /// Begins the next table. After want of memory nothing has changed.
@@ -130,8 +139,16 @@ impl Elements {
         ensures err { OnErr result (self.new ≡ self.old) }
     {
         let first = self.keys.len() as u32;
-        self.tables.push(Table::new(alloc, first, label, columns))?;
+        let table = Table::new(alloc, first, label, columns)?;
+        self.tables.push(table)?;
         Ok(())
+    }
+
+    /// Makes room among the keys for so many more elements.
+    pub fn reserve(&mut self, elements: usize) -> Result<(), AllocError>
+        ensures { self.new ≡ self.old }
+    {
+        self.keys.reserve(elements)
     }
 
     /// Adds an element to the last table. After want of memory nothing has changed.
@@ -155,5 +172,13 @@ impl Elements {
         self.keys.insert_full(key)?;
         self.cells += values.len() as u64;
         Ok(())
+    }
+
+    /// The elements alone, which are no longer found by their keys. The memory of that is given back.
+    pub fn into_list(self, alloc: Global) -> Result<ElementList, AllocError>
+        ensures { IfOk result (λ list. list ≡ self.elements) }
+    {
+        let keys = Vec::from_slice(alloc, self.keys.as_slice())?;
+        Ok(ElementList::new(keys, self.tables))
     }
 }

@@ -7,6 +7,9 @@
 //! A contract sees `Elements` as `Filled`: the list of the elements, each with its key, its label and the
 //! values of its columns, and beside it what the table that is being filled says of its rows.
 //!
+//! `Elements::into_list` gives the index of keys back and keeps the rest, an `ElementList`: elements that are read by
+//! their numbers alone.
+//!
 //! The invariants are these. Each table has a row of cells for each of its elements. The tables stand in
 //! the order of their elements, and each knows the number of its first one. The index of keys has the key
 //! of each element at the element's number.
@@ -14,18 +17,14 @@
 
 mod bits;
 mod cells;
-mod choice;
-mod chosen;
 mod columns;
 mod elements;
+mod list;
+mod near;
 mod table;
 mod words;
 
-pub use bits::Bits;
-pub use cells::Cells;
-pub use choice::choose;
-pub use chosen::Chosen;
 pub use columns::Columns;
 pub use elements::Elements;
-pub use table::Table;
-pub use words::{value_from, word_of};
+pub use list::ElementList;
+pub use words::value_from;

@@ -6,7 +6,7 @@ ghost use Rattle.element_store.specs.Words.{HasKind};
 use adfs_base::{Kind, Value};
 
 /// The word of a value of this kind. Null has none.
-pub fn word_of(value: Value, kind: Kind) -> Option<u64>
+pub(crate) fn word_of(value: Value, kind: Kind) -> Option<u64>
     requires { HasKind kind value }
     ensures { words.value_from kind result ≡ value }
 {

@@ -1,3 +1,4 @@
+//! The messages to one machine and stage.
 ghost use Rattle.std.specs.Prelude.{◌≡◌, ◌<◌, [], ◌∷◌, ◌++◌, length, IfOk, Some, nat_lt, slice_get};
 ghost use Rattle.fabric.specs.Calls.{first_of, rest_of};
 

@@ -1,3 +1,4 @@
+//! A machine's free buffers.
 ghost use Rattle.std.specs.Prelude.{◌≡◌, ◌<◌, ◌+◌, ◌-◌, if◌then◌else◌, nat_lt, Some, None, IfOk};
 ghost use Rattle.fabric.specs.Calls.{empty_buffer};
 

@@ -1,3 +1,4 @@
+//! What workers share, in any form: the calls, and what each may do.
 ghost use Rattle.std.specs.Prelude.{◌≡◌, ◌≤◌, ℕ, MatchOption, MatchResult};
 ghost use Rattle.adfs_base.specs.Shape.{Extents};
 ghost use Rattle.fabric.specs.Account.{Holding, Call, ToClaim, ToRetire, ToCharge, ToFetch, ToPost, ToPush, ToPop, ToPick, ToRestore, ToDischarge, ToMark, ToClose, ToLook, Given, Nothing, Roots, Taken, Came, Seen, unlooked, at_end};

@@ -1,3 +1,4 @@
+//! The manifest and the tables of a graph that follows from a seed.
 ghost use Rattle.std.specs.Prelude.{◌≡◌, ℕ, ◌+◌, ◌*◌, ◌%◌, ◌<◌, ◌≤◌, ◌++◌, ◌∷◌, [], OnOk, IfOk};
 ghost use Rattle.std.specs.Fmt.{decimal};
 ghost use Rattle.seeded_draws.specs.Draws.{nth_draw, state_after};

@@ -1,3 +1,4 @@
+//! A graph of a known seed.
 use super::*;
 use std::test::Fail;
 

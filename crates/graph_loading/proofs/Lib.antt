@@ -4,3 +4,4 @@ pub mod LoadFacts
 pub mod StoreFacts
 pub mod BegunFacts
 pub mod ReachFacts
+pub mod LongFacts

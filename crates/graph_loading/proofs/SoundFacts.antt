@@ -9,7 +9,7 @@ use Rattle.value_text.specs.Valid.{IsValid}
 use Rattle.element_store.proofs.ElementFacts.{cells_in-push}
 use Rattle.element_store.specs.Columns.{Column, named}
 use Rattle.element_store.specs.Elements.{Element, Filled}
-use Rattle.graph_tables.specs.Graph.{Edge, EndsIn, HasTypes, IsShown, cells_made, without_ends}
+use Rattle.graph_tables.specs.Graph.{Edge, EndsIn, FitsWords, HasTypes, IsLong, IsShown, cells_made, without_ends}
 use Rattle.graph_tables.specs.Loading.{IsReadable, IsSound, KeepsTables, edges_with, filled_of, graph_of}
 use Rattle.graph_tables.specs.declared.element_kind.ElementKind.{ElementKind}
 use Rattle.graph_tables.specs.declared.element_kind.ElementKind.TheVariants as element
@@ -56,16 +56,22 @@ named_valid texts [] values all = tt
 named_valid texts (c ∷ cs) [] all = tt
 named_valid texts (c ∷ cs) (v ∷ vs) all = (all.0, named_valid texts cs vs all.1)
 
+-- a row's whole numbers, each with its property
+pub named_long : (columns : List Column) (values : List Value) → AllByRecursion IsLong values → AllByRecursion (λ v. IsLong v.1) (named columns values)
+named_long [] values all = tt
+named_long (c ∷ cs) [] all = tt
+named_long (c ∷ cs) (v ∷ vs) all = (all.0, named_long cs vs all.1)
+
 pub ends_still : (old new : List Element) (edges : List Edge) → length old ≤ length new → AllByRecursion (EndsIn old) edges → AllByRecursion (EndsIn new) edges
 ends_still old new edges le all = all_map (EndsIn old) (EndsIn new) edges (λ e h. (omega (arith, h.0), omega (arith, h.1))) all
 
 -- with one more vertex
 pub sound_vertex : (l : Loading) (f : Filled) (texts : List (List ℕ)) (v : Element) → IsSound l
     → f.elements ≡ l.vertices.elements ++ v ∷ [] → f.tables ≡ l.vertices.tables → f.label ≡ l.vertices.label → f.columns ≡ l.vertices.columns
-    → IsShown texts v → HasTypes l.vertex_properties v → length l.texts ≤ length texts → length texts ≤ length l.texts + length v.values
+    → IsShown texts v → HasTypes l.vertex_properties v → FitsWords v → length l.texts ≤ length texts → length texts ≤ length l.texts + length v.values
     → length l.vertices.elements < most_vertices → cells_made (graph_of l) + length v.values ≤ most_cells
     → IsSound (record l { vertices = f; texts = texts })
-sound_vertex l f texts v s elements tables label columns shown typed grown few room cells =
+sound_vertex l f texts v s elements tables label columns shown typed fits grown few room cells =
     let more = cells_in-push l.vertices.elements v in
     let size = length-append l.vertices.elements (v ∷ []) in
     record {
@@ -74,6 +80,8 @@ sound_vertex l f texts v s elements tables label columns shown typed grown few r
         edges_shown = shown_still l.texts texts (without_ends (edges_with l.edges.elements l.ends.items)) grown s.whole.edges_shown;
         vertices_typed = rw elements (all_push (HasTypes l.vertex_properties) l.vertices.elements v s.whole.vertices_typed typed);
         edges_typed = s.whole.edges_typed;
+        vertices_fit = rw elements (all_push FitsWords l.vertices.elements v s.whole.vertices_fit fits);
+        edges_fit = s.whole.edges_fit;
         ends = rw elements (ends_still l.vertices.elements (l.vertices.elements ++ v ∷ []) (edges_with l.edges.elements l.ends.items) (omega (arith, size)) s.whole.ends);
       };
       ends_beside = s.ends_beside;
@@ -91,11 +99,11 @@ sound_vertex l f texts v s elements tables label columns shown typed grown few r
 pub sound_edge : (l l2 : Loading) (e : Element) (at : Ends) → IsSound l
     → l2.edges.elements ≡ l.edges.elements ++ e ∷ [] → l2.ends.items ≡ l.ends.items ++ at ∷ [] → l2.edges.tables ≡ l.edges.tables → l2.edges.label ≡ l.edges.label → l2.vertices ≡ l.vertices
     → l2.edges.columns ≡ l.edges.columns → l2.vertex_properties ≡ l.vertex_properties → l2.edge_properties ≡ l.edge_properties
-    → IsShown l2.texts e → HasTypes l.edge_properties e → at.source < length l.vertices.elements → at.target < length l.vertices.elements
+    → IsShown l2.texts e → HasTypes l.edge_properties e → FitsWords e → at.source < length l.vertices.elements → at.target < length l.vertices.elements
     → length l.texts ≤ length l2.texts → length l2.texts ≤ length l.texts + length e.values
     → length l.edges.elements < most_edges → cells_made (graph_of l) + length e.values ≤ most_cells
     → IsSound l2
-sound_edge l l2 e at s elements beside tables label vertices columns vertex_types edge_types shown typed source target grown few room cells =
+sound_edge l l2 e at s elements beside tables label vertices columns vertex_types edge_types shown typed fits source target grown few room cells =
     let more = cells_in-push l.edges.elements e in
     let size = length-append l.edges.elements (e ∷ []) in
     let pushed = edges_with-push l.edges.elements l.ends.items e at s.ends_beside in
@@ -104,6 +112,7 @@ sound_edge l l2 e at s elements beside tables label vertices columns vertex_type
     let new = without_ends-edges_with (l.edges.elements ++ e ∷ []) (l.ends.items ++ at ∷ []) longer in
     let old_shown = rw old at s.whole.edges_shown in
     let old_typed = rw old at s.whole.edges_typed in
+    let old_fit = rw old at s.whole.edges_fit in
     let cells_were = rw old at cells in
     let old_texts = rw old at s.few_texts in
     record {
@@ -112,6 +121,8 @@ sound_edge l l2 e at s elements beside tables label vertices columns vertex_type
         edges_shown = rw (elements, beside, new) (all_push (IsShown l2.texts) l.edges.elements e (shown_still l.texts l2.texts l.edges.elements grown old_shown) shown);
         vertices_typed = rw (vertices, vertex_types) s.whole.vertices_typed;
         edges_typed = rw (elements, beside, new, edge_types) (all_push (HasTypes l.edge_properties) l.edges.elements e old_typed typed);
+        vertices_fit = rw vertices s.whole.vertices_fit;
+        edges_fit = rw (elements, beside, new) (all_push FitsWords l.edges.elements e old_fit fits);
         ends = rw (vertices, elements, beside, pushed) (all_push (EndsIn l.vertices.elements) (edges_with l.edges.elements l.ends.items) _ s.whole.ends (source, target));
       };
       ends_beside = rw (elements, beside) longer;
@@ -135,6 +146,8 @@ sound_vertex_table l l2 s elements tables label edges ends grown few more column
     edges_shown = rw (edges, ends) (shown_still l.texts l2.texts (without_ends (edges_with l.edges.elements l.ends.items)) grown s.whole.edges_shown);
     vertices_typed = rw elements (elements_still l.vertex_properties l2.vertex_properties l.vertices.elements more s.whole.vertices_typed);
     edges_typed = rw (edges, ends, other) s.whole.edges_typed;
+    vertices_fit = rw elements s.whole.vertices_fit;
+    edges_fit = rw (edges, ends) s.whole.edges_fit;
     ends = rw (elements, edges, ends) s.whole.ends;
   };
   ends_beside = rw (edges, ends) s.ends_beside;
@@ -157,6 +170,8 @@ sound_edge_table l l2 s elements tables label vertices ends grown few more colum
     edges_shown = rw (elements, ends) (shown_still l.texts l2.texts (without_ends (edges_with l.edges.elements l.ends.items)) grown s.whole.edges_shown);
     vertices_typed = rw (vertices, other) s.whole.vertices_typed;
     edges_typed = rw (elements, ends) (elements_still l.edge_properties l2.edge_properties (without_ends (edges_with l.edges.elements l.ends.items)) more s.whole.edges_typed);
+    vertices_fit = rw vertices s.whole.vertices_fit;
+    edges_fit = rw (elements, ends) s.whole.edges_fit;
     ends = rw (vertices, elements, ends) s.whole.ends;
   };
   ends_beside = rw (elements, ends) s.ends_beside;

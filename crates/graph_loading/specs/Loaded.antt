@@ -1,6 +1,7 @@
 -- The graph that the files of a store say, or the first fault in order of manifest line, record and column.
 use Rattle.std.specs.Prelude.{ℕ, ◌+◌, nat_lt, if◌then◌else◌, List, [], ◌∷◌, length, drop, slice_index_or, Option, Some, None, Result, Ok, Err}
 use Rattle.adfs_base.specs.Files.{Files, file_of}
+use Rattle.adfs_base.specs.declared.limits.TheConstants.{FILE_BYTES, TABLE_BYTES}
 use Rattle.csv_records.specs.Table.{records_of}
 use Rattle.element_store.specs.Columns.{Column}
 use Rattle.value_text.specs.Texts.{number_of, with_text}
@@ -18,10 +19,10 @@ use Rattle.graph_tables.specs.declared.element_kind.ElementKind.TheVariants as e
 use Rattle.graph_tables.specs.declared.manifest.TableLine.{TableLine}
 
 abbrev pub most_of_file : ℕ
-most_of_file = 268435456
+most_of_file = FILE_BYTES
 
 abbrev pub most_of_all : ℕ
-most_of_all = 1073741824
+most_of_all = TABLE_BYTES
 
 -- the bytes of a file, unless it is too long
 abbrev pub file_bytes : ℕ → Option (List ℕ) → Result (List ℕ) TableFault

@@ -3,7 +3,7 @@ ghost use Rattle.std.specs.Prelude.{◌≡◌, ◌<◌, ◌≤◌, ◌+◌, ◌-
 ghost use Rattle.adfs_base.specs.Files.{file_of};
 ghost use Rattle.csv.specs.Records.{fields_of};
 ghost use Rattle.csv_records.specs.Table.{records_of};
-ghost use Rattle.graph_tables.specs.Faults.{FailsAt, Gives, HasCause, Loads};
+ghost use Rattle.graph_tables.specs.Faults.{FailsAt, Gives, HasCause, Loads, fault_of};
 ghost use Rattle.graph_tables.specs.Graph.{IsWhole, empty_graph};
 ghost use Rattle.graph_tables.specs.Loading.{IsSound, filled_of, graph_of, properties_in, tables_in};
 ghost use Rattle.graph_tables.specs.Manifest.{most_tables};
@@ -12,26 +12,22 @@ ghost use Rattle.graph_loading.specs.Reaching.{IsReached, IsTableReached};
 ghost use Rattle.graph_loading.specs.Steps.{HasBegun, HasLoaded, IsEmpty, LacksAt, ReadsFiles, file_answer};
 
 use crate::rows::take_records;
-use adfs_base::{Loaded, Store};
+use adfs_base::{EDGES, FILE_BYTES, Loaded, Store, TABLE_BYTES, VERTICES};
 use csv::ByteRecord;
 use csv_records::Records;
 use graph_tables::{
     ElementKind, Graph, Loading, Place, Quantity, TableFault, TableKind, TableLine, file_fault,
     heading, read_manifest,
 };
+use memchr::memchr_iter;
 use std::alloc::Global;
-
-/// The most bytes of one file, and of all tables together.
-const MOST_OF_FILE: u64 = 268_435_456;
-
-const MOST_OF_ALL: u64 = 1_073_741_824;
 
 // What a load's answer means for a file, of which these bytes were read.
 fn answer(file: u32, loaded: Loaded, bytes: &[u8]) -> Result<(), TableFault>
     ensures { result ≡ file_answer file loaded (length bytes.now) }
 {
     match loaded {
-        Loaded::Whole if bytes.len() as u64 <= MOST_OF_FILE => Ok(()),
+        Loaded::Whole if bytes.len() as u64 <= FILE_BYTES => Ok(()),
         Loaded::Whole => Err(file_fault(file, TableKind::TooLong)),
         Loaded::Missing => Err(file_fault(file, TableKind::Missing)),
         Loaded::Failed => Err(file_fault(file, TableKind::ReadFault)),
@@ -51,7 +47,7 @@ fn load_file<S: Store>(
     ensures store { ReadsFiles S.files S.faults S.misses store.old store.new file file result }
 {
     bytes.clear();
-    let loaded = store.load(name, MOST_OF_FILE, bytes);
+    let loaded = store.load(name, FILE_BYTES, bytes);
     answer(file, loaded, bytes)
 }
 
@@ -64,7 +60,7 @@ fn add_up(file: u32, total: u64, bytes: &[u8]) -> Result<u64, TableFault>
     ensures more { IfOk result (λ sum. sum ≡ total + length bytes.now) }
 {
     let sum = total + bytes.len() as u64;
-    if sum > MOST_OF_ALL {
+    if sum > TABLE_BYTES {
         return Err(file_fault(file, TableKind::TooMany(Quantity::TotalBytes)));
     }
     Ok(sum)
@@ -165,6 +161,29 @@ fn take_header(
     begin_table(alloc, at, table, &header, loading)
 }
 
+/// How many bytes of a table are looked at to guess the number of its lines.
+const SAMPLE: usize = 65_536;
+
+// About as many lines as a table has, by those of its front.
+fn lines_about(bytes: &[u8]) -> usize {
+    let front = &bytes[..bytes.len().min(SAMPLE)];
+    let lines = memchr_iter(b'\n', front).count();
+    lines.saturating_mul(bytes.len() / SAMPLE + 1)
+}
+
+// Makes room for about as many elements as a table has lines.
+fn make_room(of: ElementKind, bytes: &[u8], loading: &mut Loading) -> Result<(), TableFault>
+    ensures same { loading.new ≡ loading.old }
+    ensures memory { IfErr result (λ e. e ≡ fault_of 0 TableKind.NoMemory) }
+{
+    let lines = lines_about(bytes);
+    match of {
+        ElementKind::Vertex => loading.vertices.reserve(lines.min(VERTICES as usize))?,
+        ElementKind::Edge => loading.edges.reserve(lines.min(EDGES as usize))?,
+    }
+    Ok(())
+}
+
 // Adds the elements of a table's bytes.
 fn take_table(
     alloc: Global,
@@ -182,6 +201,7 @@ fn take_table(
     ensures tables { OnOk result (tables_in loading.new ≡ tables_in loading.old + 1) }
     ensures properties { OnOk result (properties_in loading.new ≤ properties_in loading.old + length bytes.now + 1) }
 {
+    make_room(table.of, bytes, loading)?;
     let mut records = Records::new(alloc, bytes);
     take_header(alloc, Place { file, row: 1 }, table, &mut records, loading)?;
     take_records(alloc, table.of, file, &mut records, loading)
@@ -249,12 +269,11 @@ fn load_manifest<S: Store>(
     read_manifest(alloc, bytes)
 }
 
-// Loads the tables that a manifest names. `bytes` is where each file is read to.
+// Loads the tables that a manifest names.
 fn load_named<S: Store>(
     alloc: Global,
     store: &mut S,
     manifest: &str,
-    bytes: &mut Vec<u8>,
     loading: &mut Loading,
 ) -> Result<u64, TableFault>
     requires { IsEmpty loading.old }
@@ -263,8 +282,9 @@ fn load_named<S: Store>(
     ensures store { ReadsFiles S.files S.faults S.misses store.old store.new 0 most_tables result }
     ensures reached { IfErr result (λ e. e.kind ≡ TableKind.ReadFault → IfSome (S.files store.old) (λ files. IsReached files manifest.now e.file)) }
 {
-    let tables = load_manifest(alloc, store, manifest, bytes)?;
-    load_tables(alloc, store, &tables, bytes, loading)
+    let mut bytes = Vec::new(alloc);
+    let tables = load_manifest(alloc, store, manifest, &mut bytes)?;
+    load_tables(alloc, store, &tables, &mut bytes, loading)
 }
 
 /// Loads the graph of a manifest and the tables that it names.
@@ -288,7 +308,6 @@ pub fn load_graph<S: Store>(
     ensures reached { IfErr result (λ e. e.kind ≡ TableKind.ReadFault → IfSome (S.files store.old) (λ files. IsReached files manifest.now e.file)) }
 {
     let mut loading = Loading::new(alloc);
-    let mut bytes = Vec::new(alloc);
-    load_named(alloc, store, manifest, &mut bytes, &mut loading)?;
+    load_named(alloc, store, manifest, &mut loading)?;
     Ok(Graph::new(alloc, loading))
 }

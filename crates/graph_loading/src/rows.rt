@@ -17,7 +17,7 @@ ghost use Rattle.graph_tables.specs.Limits.{most_cells, most_edges, most_vertice
 ghost use Rattle.graph_loading.specs.Rows as rows;
 ghost use Rattle.graph_loading.specs.Rows.{AreRead, admitted, edge_admitted, edge_record, ends_of, in_column, most_of, quantity_of, row_record, rows_from, values_of, vertex_admitted, vertex_record};
 
-use adfs_base::{Kind, Value};
+use adfs_base::{EDGES, Kind, PROPERTY_CELLS, VERTICES, Value};
 use csv::ByteRecord;
 use csv_records::Records;
 use element_store::{Columns, Elements};
@@ -26,13 +26,6 @@ use graph_tables::{
 };
 use std::alloc::Global;
 use value_text::{CellFault, Texts, read_key, read_value};
-
-/// The most vertices and edges of a graph, and the most property cells of both.
-const MOST_VERTICES: u32 = 4_194_304;
-
-const MOST_EDGES: u32 = 16_777_216;
-
-const MOST_CELLS: u64 = 67_108_864;
 
 fn quantity(of: ElementKind) -> Quantity
     ensures { result ≡ quantity_of of }
@@ -47,8 +40,8 @@ fn most(of: ElementKind) -> u32
     ensures { result ≡ most_of of }
 {
     match of {
-        ElementKind::Vertex => MOST_VERTICES,
-        ElementKind::Edge => MOST_EDGES,
+        ElementKind::Vertex => VERTICES,
+        ElementKind::Edge => EDGES,
     }
 }
 
@@ -68,7 +61,7 @@ fn admit(
     if made >= most(of) {
         return Err(at.fault(0, TableKind::TooMany(quantity(of))));
     }
-    if cells + columns as u64 > MOST_CELLS {
+    if cells + columns as u64 > PROPERTY_CELLS {
         return Err(at.fault(0, TableKind::TooMany(Quantity::Cells)));
     }
     if width != key_count(of) + columns {

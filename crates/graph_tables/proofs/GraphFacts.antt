@@ -1,6 +1,7 @@
 -- Edges as elements and ends side by side.
 use Rattle.std.proofs.Common.{◌≡◌, ap, refl, arith, ℕ, ℤ, zero, suc, List, [], ◌∷◌, ◌++◌, length, slice_get, pos, Option, Some}
 use Rattle.std.specs.List.{AllByRecursion}
+use Rattle.std.specs.Option.{option_map}
 use Rattle.element_store.specs.Elements.{Element}
 use Rattle.graph_tables.specs.Graph.{Edge, EndsIn, without_ends}
 use Rattle.graph_tables.specs.Loading.{IsReadable, IsSound, edges_with}
@@ -31,6 +32,13 @@ edges_with-get [] ends i e at h f = cc h
 edges_with-get (x ∷ xs) [] i e at h f = cc f
 edges_with-get (x ∷ xs) (y ∷ ys) zero e at h f = let a : x ≡ e = cc h in let b : y ≡ at = cc f in rw (a, b) refl
 edges_with-get (x ∷ xs) (y ∷ ys) (suc i) e at h f = edges_with-get xs ys i e at h f
+
+pub label_with : (es : List Element) (ends : List Ends) (i l : ℕ) → length ends ≡ length es → option_map (λ (e : Element). e.label) (slice_get es i) ≡ Some l
+    → option_map (λ (e : Edge). e.label) (slice_get (edges_with es ends) i) ≡ Some l
+label_with [] ends i l size at = cc at
+label_with (x ∷ xs) [] i l size at = absurd (omega (arith, size))
+label_with (x ∷ xs) (y ∷ ys) zero l size at = at
+label_with (x ∷ xs) (y ∷ ys) (suc i) l size at = label_with xs ys i l (omega (arith, size)) at
 
 pub ends_at : (vertices : List Element) (edges : List Edge) (i : ℕ) (e : Edge) → AllByRecursion (EndsIn vertices) edges → slice_get edges i ≡ Some e → EndsIn vertices e
 ends_at vertices [] i e all h = cc h

@@ -1,5 +1,5 @@
 -- A header's columns have their properties' kinds, and properties stay.
-use Rattle.std.proofs.Common.{◌≡◌, ◌∙◌, sym, ap, refl, arith, ◌<◌, ◌≤◌, ◌+◌, ◌-◌, ℕ, zero, suc, Bool, true, false, cond, is_some, List, [], ◌∷◌, ◌++◌, length, drop, slice_get, Option, Some, None, Result, Ok, Err}
+use Rattle.std.proofs.Common.{◌≡◌, ◌∙◌, ap, refl, arith, ◌+◌, ℕ, zero, suc, Bool, true, false, cond, is_some, List, [], ◌∷◌, ◌++◌, length, drop, slice_get, Option, Some, None, Result, Ok, Err}
 use Rattle.std.specs.List.{AllByRecursion}
 use Rattle.std.specs.Option.{option_map}
 use Rattle.std.specs.Str.{bytes_eq}
@@ -9,7 +9,7 @@ use Rattle.adfs_base.specs.declared.value.Value.{Value}
 use Rattle.element_store.specs.Columns.{Column, HaveKinds, column_of, named}
 use Rattle.element_store.specs.Elements.{Element}
 use Rattle.element_store.specs.Words.{HasKind}
-use Rattle.graph_tables.specs.Faults.{◌>>=◌, fault_at}
+use Rattle.graph_tables.specs.Faults.{◌>>=◌}
 use Rattle.graph_tables.specs.Graph.{HasType, HasTypes}
 use Rattle.graph_tables.specs.Headers.{Heading, columns_from, header_cell, heading_of, is_key_name, key_columns, keys_first, or_bad, with_column, with_property}
 use Rattle.graph_tables.specs.Properties.{AreTyped, Extends, Property, kind_eq, placed, placed_at, property_from, property_of}

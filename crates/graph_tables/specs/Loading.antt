@@ -75,3 +75,10 @@ pub record IsReadable (l : Loading) : Type 0 where
   pub ends : AllByRecursion (EndsIn l.vertices.elements) (edges_with l.edges.elements l.ends.items)
   pub few_vertices : length l.vertices.elements < 2 ^ 32
   pub few_edges : length l.edges.elements < 2 ^ 32
+
+-- What a bare graph keeps: ends beside its edges, which are vertices, and numbers that fit 32 bits.
+pub record IsBare (vertices edges : List Element) (ends : List Ends) : Type 0 where
+  pub ends_beside : length ends ≡ length edges
+  pub at_vertices : AllByRecursion (EndsIn vertices) (edges_with edges ends)
+  pub few_vertices : length vertices < 2 ^ 32
+  pub few_edges : length edges < 2 ^ 32

@@ -1,3 +1,4 @@
+//! The two kinds of elements.
 ghost use Rattle.std.specs.Prelude.{◌≡◌};
 ghost use Rattle.graph_tables.specs.Headers.{key_columns};
 

@@ -2,15 +2,14 @@
 ghost use Rattle.std.specs.Prelude.{◌≡◌, ◌<◌, ◌^◌, [], IfOk, length, slice_get, Some};
 ghost use Rattle.std.specs.List.{AllByRecursion};
 ghost use Rattle.std.specs.Option.{option_map};
-ghost use Rattle.element_store.specs.Chosen.{where_true};
 ghost use Rattle.element_store.specs.Columns.{value_of};
-ghost use Rattle.graph_tables.specs.Graph.{EndsIn, vertex_of, without_ends};
+ghost use Rattle.graph_tables.specs.Graph.{EndsIn, vertex_of};
 ghost use Rattle.graph_tables.specs.Loading.{IsSound, graph_of};
 
+use crate::bare::BareGraph;
 use crate::loading::Loading;
 use crate::properties::{Properties, Schema};
 use adfs_base::{NoMemory, Value};
-use element_store::{Bits, Chosen, choose};
 use std::alloc::Global;
 use std::marker::Model;
 use std::mem::replace;
@@ -104,25 +103,6 @@ impl Graph {
         self.loaded.vertices.number_of(key)
     }
 
-    /// The vertices whose flags are true, in their order, with the rows of their tables.
-    pub fn choose_vertices(&self, alloc: Global, flags: &Bits) -> Result<Chosen, NoMemory>
-        requires { length flags.now ≡ length self.now.vertices }
-        ensures { IfOk result (λ chosen. chosen.elements ≡ where_true flags.now self.now.vertices) }
-    {
-        let vertices = &self.loaded.vertices;
-        Ok(choose(alloc, vertices, flags)?)
-    }
-
-    /// What the edges whose flags are true have besides their ends, in their order, with the rows of their
-    /// tables.
-    pub fn choose_edges(&self, alloc: Global, flags: &Bits) -> Result<Chosen, NoMemory>
-        requires { length flags.now ≡ length self.now.edges }
-        ensures { IfOk result (λ chosen. chosen.elements ≡ where_true flags.now (without_ends self.now.edges)) }
-    {
-        let edges = &self.loaded.edges;
-        Ok(choose(alloc, edges, flags)?)
-    }
-
     /// Gives the schema and the texts away, and leaves empty ones. The vertices and edges stay, and their
     /// labels and values go on to name those texts.
     pub fn detach(&mut self) -> (Schema, Texts)
@@ -140,5 +120,14 @@ impl Graph {
         );
         let texts = replace(&mut self.loaded.texts, Texts::new(self.alloc));
         (Schema::new(vertex, edge), texts)
+    }
+
+    /// The graph's vertices and edges by their numbers. The memory of all else is given back.
+    pub fn into_bare(self) -> Result<BareGraph, NoMemory>
+        ensures vertices { IfOk result (λ bare. bare.vertices ≡ self.vertices) }
+        ensures edges { IfOk result (λ bare. bare.edges ≡ self.edges) }
+    {
+        let alloc = self.alloc;
+        self.loaded.into_bare(alloc)
     }
 }

@@ -10,9 +10,10 @@
 //! (`specs/Manifest.antt`, `specs/Headers.antt`), or the first fault. `Loading` is a graph that is being
 //! loaded, as plain data; what it keeps from record to record is `IsSound` (`specs/Loading.antt`).
 //!
-//! Want of memory is an answer of its own. Of `Graph`'s calls only `choose_vertices` and `choose_edges` take memory.
+//! Want of memory is an answer of its own. Of `Graph`'s calls only `into_bare` takes memory.
 #![tactic(auto)]
 
+mod bare;
 mod element_kind;
 mod faults;
 mod graph;
@@ -23,6 +24,7 @@ mod names;
 mod properties;
 mod record_cells;
 
+pub use bare::BareGraph;
 pub use element_kind::{ElementKind, key_count};
 pub use faults::{Place, Quantity, TableFault, TableKind, file_fault};
 pub use graph::Graph;

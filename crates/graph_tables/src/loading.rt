@@ -1,9 +1,11 @@
 //! A graph that is being loaded.
-ghost use Rattle.std.specs.Prelude.{◌≡◌};
+ghost use Rattle.std.specs.Prelude.{◌≡◌, IfOk};
 ghost use Rattle.graph_tables.specs.Graph.{empty_graph};
-ghost use Rattle.graph_tables.specs.Loading.{IsSound, graph_of, properties_in, tables_in};
+ghost use Rattle.graph_tables.specs.Loading.{IsReadable, IsSound, graph_of, properties_in, tables_in};
 
+use crate::bare::BareGraph;
 use crate::properties::Properties;
+use adfs_base::NoMemory;
 use element_store::Elements;
 use std::alloc::Global;
 use value_text::Texts;
@@ -42,5 +44,16 @@ impl Loading {
             vertex_properties: Properties::new(alloc),
             edge_properties: Properties::new(alloc),
         }
+    }
+
+    /// The vertices and edges by their numbers. The memory of all else is given back.
+    pub(crate) fn into_bare(self, alloc: Global) -> Result<BareGraph, NoMemory>
+        requires { IsReadable self }
+        ensures vertices { IfOk result (λ bare. bare.vertices ≡ (graph_of self).vertices) }
+        ensures edges { IfOk result (λ bare. bare.edges ≡ (graph_of self).edges) }
+    {
+        let vertices = self.vertices.into_list(alloc)?;
+        let edges = self.edges.into_list(alloc)?;
+        Ok(BareGraph::new(vertices, edges, self.ends))
     }
 }

@@ -1,3 +1,4 @@
+//! Room for contexts, which goes round between machines.
 ghost use Rattle.std.specs.Prelude.{◌≡◌, ◌<◌, ◌≤◌, [], ◌∷◌, ◌++◌, length, IfOk};
 
 use crate::Context;

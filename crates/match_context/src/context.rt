@@ -1,3 +1,4 @@
+//! A match, or a part of one, in 40 words.
 ghost use Rattle.std.specs.Prelude.{◌≡◌, ◌+◌, ◌<◌};
 ghost use Rattle.match_context.specs.Words.{captured_in, number_in};
 

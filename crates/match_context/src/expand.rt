@@ -1,3 +1,4 @@
+//! A staged tree: what the contexts are that come next.
 ghost use Rattle.std.specs.Prelude.{◌≡◌, ◌<◌};
 ghost use Rattle.match_context.specs.Tree.{Tree, IsTree, answer, after};
 

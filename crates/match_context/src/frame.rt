@@ -1,3 +1,4 @@
+//! A level of a worker's stack.
 use crate::{Context, Message};
 
 /// One level of a worker's stack: a context, and how far the worker has come with it.

@@ -1,3 +1,4 @@
+//! The laws of bags, of weights and of rows.
 ghost use Rattle.match_context.specs.Laws.{BagsArePermutations, RowsWeighAsLeaves, SumsInAnyOrder, WeightsFallByAnswers};
 
 /// Two lists of contexts are the same bag exactly where one is the other in another order.

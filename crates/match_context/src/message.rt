@@ -1,3 +1,4 @@
+//! Contexts on their way from one machine to a stage of another.
 use crate::Buffer;
 
 /// Contexts on their way from one machine to a stage of another.

@@ -1,3 +1,4 @@
+//! Contexts and buffers hold what is put into them.
 use super::*;
 use adfs_base::CONTEXT_WORDS;
 use std::test::Fail;

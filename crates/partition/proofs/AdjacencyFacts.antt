@@ -1,12 +1,12 @@
 -- Links in one array, and the spans of their lists.
-use Rattle.std.proofs.Common.{◌≡◌, ◌∙◌, ap, refl, arith, ℕ, suc, Bool, true, false, cond, List, [], ◌∷◌, ◌++◌, length, map, take, drop, length-append, length-drop}
+use Rattle.std.proofs.Common.{◌≡◌, ◌∙◌, ap, refl, arith, ◌≤◌, ℕ, suc, Bool, true, false, cond, List, [], ◌∷◌, ◌++◌, length, map, take, drop, length-append, length-drop}
 use Rattle.std.proofs.lemmas.List.{drop-append-le, map-append, take-append-le, take_all}
 use Rattle.std.specs.Cmp.{IsTotalOrder}
 use Rattle.std.specs.List.{AllByRecursion}
 use Rattle.std.proofs.lemmas.Cmp.{nat_cmp_total, on_total, then_total}
 use Rattle.sorted_lists.specs.Sorted.{in_order, placed}
 use Rattle.partition.specs.Kept.{IsSpan, link_order, linked}
-use Rattle.partition.specs.declared.adjacency.Link.{Link}
+use Rattle.partition.specs.declared.link.Link.{Link}
 use Rattle.partition.specs.declared.adjacency.Span.{Span}
 
 pub link_order-total : IsTotalOrder link_order
@@ -53,18 +53,18 @@ map-in_order f before after same (x ∷ xs) = map-placed f before after same x (
 
 -- ---- spans
 
-linked_still : (links more : List Link) (span : Span) → IsSpan links span → linked (links ++ more) span ≡ linked links span
+linked_still : (links more : List Link) (span : Span) → IsSpan (length links) span → linked (links ++ more) span ≡ linked links span
 linked_still links more span fits =
     rw (drop-append-le span.start links more (omega (arith, fits)))
     (take-append-le span.degree (drop span.start links) more (omega (arith, fits, length-drop span.start links)))
 
-spans_kept : (links more : List Link) (spans : List Span) → AllByRecursion (IsSpan links) spans → map (linked (links ++ more)) spans ≡ map (linked links) spans
+spans_kept : (links more : List Link) (spans : List Span) → AllByRecursion (IsSpan (length links)) spans → map (linked (links ++ more)) spans ≡ map (linked links) spans
 spans_kept links more [] all = refl
 spans_kept links more (s ∷ ss) all = rw (linked_still links more s all.0, spans_kept links more ss all.1) refl
 
-spans_still : (links more : List Link) (spans : List Span) → AllByRecursion (IsSpan links) spans → AllByRecursion (IsSpan (links ++ more)) spans
-spans_still links more [] all = tt
-spans_still links more (s ∷ ss) all = (omega (arith, all.0, length-append links more), spans_still links more ss all.1)
+spans_still : (m n : ℕ) (spans : List Span) → m ≤ n → AllByRecursion (IsSpan m) spans → AllByRecursion (IsSpan n) spans
+spans_still m n [] le all = tt
+spans_still m n (s ∷ ss) le all = (omega (arith, all.0, le), spans_still m n ss le all.1)
 
 linked_last : (links more : List Link) (degree : ℕ) → degree ≡ length more → take degree (drop (length links) (links ++ more)) ≡ more
 linked_last links more degree size = rw (drop_front links more) (take_all degree more (omega arith))
@@ -73,16 +73,18 @@ linked_last links more degree size = rw (drop_front links more) (take_all degree
     drop_front [] ys = refl
     drop_front (x ∷ xs) ys = drop_front xs ys
 
-All-push : {X : Type 0} (P : X → Type 0) (xs : List X) (x : X) → AllByRecursion P xs → P x → AllByRecursion P (xs ++ x ∷ [])
+pub All-push : {X : Type 0} (P : X → Type 0) (xs : List X) (x : X) → AllByRecursion P xs → P x → AllByRecursion P (xs ++ x ∷ [])
 All-push P [] x all here = (here, tt)
 All-push P (y ∷ ys) x all here = (all.0, All-push P ys x all.1 here)
 
 -- one list more
-module _ (links more : List Link) (spans : List Span) (degree : ℕ) (all : AllByRecursion (IsSpan links) spans) (size : degree ≡ length more) where
+module _ (links more : List Link) (spans : List Span) (degree : ℕ) (all : AllByRecursion (IsSpan (length links)) spans) (size : degree ≡ length more) where
   pub lists_after : map (linked (links ++ more)) (spans ++ record { start = length links; degree = degree } ∷ []) ≡ map (linked links) spans ++ more ∷ []
   lists_after =
       map-append (linked (links ++ more)) spans (record { start = length links; degree = degree } ∷ [])
       ∙ rw (spans_kept links more spans all, linked_last links more degree size) refl
 
-  pub spans_after : AllByRecursion (IsSpan (links ++ more)) (spans ++ record { start = length links; degree = degree } ∷ [])
-  spans_after = All-push (IsSpan (links ++ more)) spans (record { start = length links; degree = degree }) (spans_still links more spans all) (omega (arith, length-append links more))
+  pub spans_after : AllByRecursion (IsSpan (length (links ++ more))) (spans ++ record { start = length links; degree = degree } ∷ [])
+  spans_after =
+      let long = length-append links more in
+      All-push (IsSpan (length (links ++ more))) spans (record { start = length links; degree = degree }) (spans_still (length links) (length (links ++ more)) spans (omega (arith, long)) all) (omega (arith, long, size))

@@ -3,6 +3,8 @@ pub mod AdjacencyFacts
 pub mod FaultFacts
 pub mod Numerals
 pub mod OwnerFacts
-pub mod SiteFacts
+pub mod DealingFacts
 pub mod PartFacts
 pub mod ReadFacts
+pub mod ChainFacts
+pub mod StandFacts

@@ -1,5 +1,5 @@
 -- Machines' parts of a graph.
-use Rattle.std.specs.Prelude.{◌≡◌, ℕ, ◌+◌, ◌==◌, Bool, true, false, ℤ, List, [], ◌∷◌, length, map, slice_get, slice_index, Option, option_and_then}
+use Rattle.std.specs.Prelude.{◌≡◌, ℕ, pos, ◌+◌, ◌==◌, Bool, true, false, ℤ, List, [], ◌∷◌, length, map, slice_get, slice_index, Option, option_and_then}
 use Rattle.std.specs.List.{filter, range_with_len}
 use Rattle.std.specs.Ordering.{nat_cmp, ordering_then}
 use Rattle.std.specs.declared.cmp.Ordering.{Ordering}
@@ -8,6 +8,7 @@ use Rattle.graph_tables.specs.Graph.{Edge, PropertyGraph, Vertex}
 use Rattle.sorted_lists.specs.Sorted.{before_by, in_order}
 use Rattle.partition.specs.Owners.{machine_of}
 use Rattle.partition.specs.declared.adjacent.Adjacent.{Adjacent}
+use Rattle.partition.specs.declared.link.Link.{Link}
 use Rattle.partition.specs.declared.owner.Owner.{Owner}
 
 -- an edge as it stands in the list of one of its ends: its number and key, the other end and the machine that has it, and
@@ -42,6 +43,14 @@ entry_at out part place n = option_and_then (λ list. slice_get list n) (slice_g
 -- the entry without its values
 abbrev pub adjacent_of : Entry → Adjacent
 adjacent_of e = record { edge = e.edge; key = e.key; other = e.other; machine = e.machine; label = e.label }
+
+-- the entry without its key and values
+abbrev pub link_of_entry : Entry → Link
+link_of_entry e = record { other = e.other; edge = e.edge; machine = e.machine; label = e.label }
+
+-- an edge that stands for none
+abbrev pub no_edge : Edge
+no_edge = record { key = pos 0; label = 0; source = 0; target = 0; values = [] }
 
 -- the items with their numbers, which count from n
 abbrev pub numbered : {X : Type 0} → ℕ → List X → List (ℕ × X)

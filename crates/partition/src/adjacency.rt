@@ -1,25 +1,13 @@
-//! The edges of each vertex of a part, in one flat array.
-ghost use Rattle.std.specs.Prelude.{◌≡◌, ◌<◌, ◌^◌, ◌++◌, ◌∷◌, [], IfOk, OnOk, OnErr, length, map};
-ghost use Rattle.std.specs.List.{AllByRecursion, flat_map};
+//! The links of each vertex of a part, in one flat array.
+ghost use Rattle.std.specs.Prelude.{◌≡◌, ◌<◌, ◌^◌, ◌++◌, ◌∷◌, [], OnOk, length};
+ghost use Rattle.std.specs.List.{AllByRecursion};
 ghost use Rattle.partition.specs.Kept.{IsSpan, link_lists, link_order, links_in_order};
 
+use crate::link::Link;
 use adfs_base::NoMemory;
 use sorted_lists::sort_by;
 use std::alloc::Global;
 use std::cmp::Ordering;
-
-/// An edge in the list of one of its ends.
-#[derive(Clone, Copy)]
-pub(crate) struct Link {
-    /// Its number in the graph.
-    pub(crate) edge: u32,
-    /// Its place among the edges that the part keeps.
-    pub(crate) row: u32,
-    /// The number of its other end.
-    pub(crate) other: u32,
-    /// The number of its label.
-    pub(crate) label: u32,
-}
 
 /// Where the links of a vertex stand.
 #[derive(Clone, Copy)]
@@ -30,7 +18,7 @@ pub(crate) struct Span {
 
 /// The links of all vertices, those of a vertex side by side, and a span for each vertex.
 #[derive(Drop)]
-pub(crate) struct Adjacency {
+pub(crate) struct Lists {
     pub(crate) spans: Vec<Span>,
     pub(crate) links: Vec<Link>,
 }
@@ -48,35 +36,18 @@ fn sort_links(links: &mut Vec<Link>) -> Result<(), NoMemory>
     Ok(())
 }
 
-// Adds the list of the next vertex.
-fn add_list(mut list: Vec<Link>, adjacency: &mut Adjacency) -> Result<(), NoMemory>
-    requires few { length list.items < 2 ^ 32 }
-    requires spans { AllByRecursion (IsSpan adjacency.old.links.items) adjacency.old.spans.items }
-    ensures lists { OnOk result (link_lists adjacency.new ≡ link_lists adjacency.old ++ links_in_order list.items ∷ []) }
-    ensures spans { OnOk result (AllByRecursion (IsSpan adjacency.new.links.items) adjacency.new.spans.items) }
-    ensures links { OnOk result (adjacency.new.links.items ≡ adjacency.old.links.items ++ links_in_order list.items) }
+/// Adds the list of the next vertex, in order.
+pub(crate) fn add_list(list: &mut Vec<Link>, lists: &mut Lists) -> Result<(), NoMemory>
+    requires few { length list.old.items < 2 ^ 32 }
+    requires spans { AllByRecursion (IsSpan (length lists.old.links.items)) lists.old.spans.items }
+    ensures added { OnOk result (link_lists lists.new ≡ link_lists lists.old ++ links_in_order list.old.items ∷ []) }
+    ensures spans { OnOk result (AllByRecursion (IsSpan (length lists.new.links.items)) lists.new.spans.items) }
+    ensures links { OnOk result (lists.new.links.items ≡ lists.old.links.items ++ links_in_order list.old.items) }
 {
-    sort_links(&mut list)?;
-    let start = adjacency.links.len();
+    sort_links(list)?;
+    let start = lists.links.len();
     let degree = list.len() as u32;
-    adjacency.links.extend_from_slice(&list)?;
-    adjacency.spans.push(Span { start, degree })?;
+    lists.links.extend_from_slice(list)?;
+    lists.spans.push(Span { start, degree })?;
     Ok(())
-}
-
-/// The lists, each in order.
-pub(crate) fn in_order(alloc: Global, lists: Vec<Vec<Link>>) -> Result<Adjacency, NoMemory>
-    requires few { AllByRecursion (λ list. length list.items < 2 ^ 32) lists.items }
-    ensures lists { IfOk result (λ a. link_lists a ≡ map (λ list. links_in_order list.items) lists.items) }
-    ensures spans { IfOk result (λ a. AllByRecursion (IsSpan a.links.items) a.spans.items) }
-    ensures links { IfOk result (λ a. a.links.items ≡ flat_map (λ list. links_in_order list.items) lists.items) }
-{
-    let mut adjacency = Adjacency {
-        spans: Vec::with_capacity(alloc, lists.len())?,
-        links: Vec::new(alloc),
-    };
-    for list in lists {
-        add_list(list, &mut adjacency)?;
-    }
-    Ok(adjacency)
 }

@@ -1,3 +1,5 @@
+//! An edge in the list of one of its ends.
+
 /// An edge in the list of one of its ends.
 #[derive(Clone, Copy, Debug, PartialEq, Eq)]
 pub struct Adjacent {

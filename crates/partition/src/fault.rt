@@ -1,3 +1,4 @@
+//! Why an owner file isn't accepted.
 use adfs_base::NoMemory;
 use std::alloc::{AllocError, AllocFailed};
 

@@ -1,107 +1,137 @@
-//! The list of each vertex of a machine.
-ghost use Rattle.std.specs.Prelude.{◌≡◌, ◌<◌, ◌≤◌, ◌+◌, ◌^◌, ◌++◌, ◌∷◌, [], ◌==◌, ◌||◌, if◌then◌else◌, IfOk, OnOk, length, map, replicate, slice_index, slice_index_or, slice_set};
-ghost use Rattle.partition.specs.Kept.{IsSite, link_of, links_from, no_edge, row_after, with_link};
-ghost use Rattle.partition.specs.Parts.{near_end};
+//! What a machine has of its own: its vertices, and the lists of the edges at them.
+ghost use Rattle.std.specs.Prelude.{◌≡◌, ◌<◌, ◌^◌, ◌++◌, ◌∷◌, [], IfOk, OnOk, length, map, slice_index_or, true, false};
+ghost use Rattle.std.specs.List.{AllByRecursion, range_with_len};
+ghost use Rattle.partition.specs.Kept.{AreChains, HoldsLists, IsOwn, link_of, links_at};
+ghost use Rattle.partition.specs.Parts.{no_edge};
 
-use crate::adjacency::Link;
-use crate::site::Site;
+use crate::adjacency::{Lists, add_list};
+use crate::chains::{Both, Chains, NO_NUMBER};
+use crate::dealing::number_list;
+use crate::link::Link;
 use adfs_base::NoMemory;
-use graph_tables::Graph;
+use graph_tables::BareGraph;
 use std::alloc::Global;
 
-// So many empty lists.
-fn empty_lists(alloc: Global, number: usize) -> Result<Vec<Vec<Link>>, NoMemory>
-    ensures { IfOk result (λ lists. map (λ list. list.items) lists.items ≡ replicate number []) }
-{
-    let mut lists = Vec::with_capacity(alloc, number)?;
-    for place in 0..number {
-        lists.push(Vec::new(alloc))?;
-    }
-    Ok(lists)
+/// The numbers of a machine's vertices, and for each of them the edges that begin at it and those that end at it.
+#[derive(Drop)]
+pub(crate) struct Own {
+    pub(crate) machine: u32,
+    pub(crate) numbers: Vec<u32>,
+    pub(crate) outgoing: Lists,
+    pub(crate) incoming: Lists,
 }
 
-// Adds a link to the list at a place.
-fn add_link(lists: &mut [Vec<Link>], place: usize, link: Link) -> Result<(), NoMemory>
-    requires { place < length lists.old }
-    ensures added { OnOk result (map (λ list. list.items) lists.new ≡ slice_set (map (λ list. list.items) lists.old) place (slice_index_or (map (λ list. list.items) lists.old) place [] ++ link ∷ [])) }
-    ensures length { length lists.new ≡ length lists.old }
+// The link of an edge.
+fn link(graph: &BareGraph, owners: &[u32], out: bool, number: u32) -> Link
+    requires number { number < length graph.now.edges }
+    requires owners { length owners.now ≡ length graph.now.vertices }
+    ensures { result ≡ link_of owners.now out (number, slice_index_or graph.now.edges number no_edge) }
 {
-    lists[place].push(link)?;
-    Ok(())
-}
-
-// The end in whose list an edge stands, and the other.
-fn ends(out: bool, source: u32, target: u32) -> (u32, u32)
-    ensures { result ≡ (if out then (source, target) else (target, source)) }
-{
-    if out {
-        (source, target)
-    } else {
-        (target, source)
+    let (source, target) = graph.ends(number);
+    let other = if out { target } else { source };
+    Link {
+        other,
+        edge: number,
+        machine: owners[other as usize],
+        label: graph.label(number),
     }
 }
 
-// Adds an edge to the list of its end, if the machine has that.
-fn take_edge(
-    graph: &Graph,
-    site: &Site,
+// The links of a vertex, in place of what the list holds.
+fn fill_list(
+    graph: &BareGraph,
+    owners: &[u32],
+    chains: &Chains,
     out: bool,
-    number: u32,
-    row: u32,
-    lists: &mut [Vec<Link>],
+    vertex: u32,
+    list: &mut Vec<Link>,
 ) -> Result<(), NoMemory>
-    requires site { IsSite (length graph.now.vertices) site.now }
-    requires number { number < length graph.now.edges }
-    requires lists { length lists.old ≡ length site.now.numbers.items }
-    ensures taken { OnOk result (map (λ list. list.items) lists.new ≡ with_link site.now.numbers.items (near_end out (slice_index_or graph.now.edges number no_edge)) (link_of out number row (slice_index_or graph.now.edges number no_edge)) (map (λ list. list.items) lists.old)) }
-    ensures length { length lists.new ≡ length lists.old }
+    requires owners { length owners.now ≡ length graph.now.vertices }
+    requires chains { AreChains (length graph.now.vertices) out graph.now.edges chains.now }
+    requires vertex { vertex < length graph.now.vertices }
+    ensures { OnOk result (list.new.items ≡ links_at owners.now out graph.now.edges vertex) }
 {
-    let (_, label, source, target) = graph.edge(number);
-    let (near, other) = ends(out, source, target);
-    if let Some(place) = site.place_of(near) {
-        let link = Link {
-            edge: number,
-            row,
-            other,
-            label,
-        };
-        add_link(lists, place as usize, link)?;
+    list.clear();
+    // What this call promises keeps numbers of edges apart from `NO_NUMBER`.
+    let _edges = graph.edges();
+    let mut number = chains.first[vertex as usize];
+    'edges: while number != NO_NUMBER {
+        list.push(link(graph, owners, out, number))?;
+        number = chains.next[number as usize];
     }
     Ok(())
 }
 
-// The row of the next edge that is kept, after an edge.
-fn next_row(graph: &Graph, site: &Site, number: u32, row: u32) -> u32
-    requires site { IsSite (length graph.now.vertices) site.now }
-    requires number { number < length graph.now.edges }
-    requires few { length graph.now.edges < 2 ^ 32 }
-    requires row { row ≤ number }
-    ensures row { result ≡ row_after site.now.owners.items site.now.machine row (slice_index_or graph.now.edges number no_edge) }
-    ensures bound { result ≤ number + 1 }
-{
-    let (_, _, source, target) = graph.edge(number);
-    if site.touches(source, target) {
-        row + 1
-    } else {
-        row
-    }
-}
-
-/// The links of each vertex of the machine, in the order of the edges.
-pub(crate) fn links(
+// The lists of vertices in one direction, each in order.
+fn link_all(
     alloc: Global,
-    graph: &Graph,
-    site: &Site,
+    graph: &BareGraph,
+    owners: &[u32],
+    numbers: &[u32],
+    chains: &Chains,
     out: bool,
-) -> Result<Vec<Vec<Link>>, NoMemory>
-    requires { IsSite (length graph.now.vertices) site.now }
-    ensures { IfOk result (λ lists. map (λ list. list.items) lists.items ≡ map (λ v. links_from site.now.owners.items site.now.machine out 0 0 graph.now.edges v) site.now.numbers.items) }
+) -> Result<Lists, NoMemory>
+    requires owners { length owners.now ≡ length graph.now.vertices }
+    requires numbers { AllByRecursion (λ v. v < length graph.now.vertices) numbers.now }
+    requires chains { AreChains (length graph.now.vertices) out graph.now.edges chains.now }
+    ensures { IfOk result (HoldsLists owners.now out graph.now.edges numbers.now) }
 {
-    let mut lists = empty_lists(alloc, site.numbers.len())?;
-    let mut row: u32 = 0;
-    for number in 0..graph.edges() {
-        take_edge(graph, site, out, number, row, &mut lists)?;
-        row = next_row(graph, site, number, row);
+    let mut list = Vec::new(alloc);
+    let mut lists = Lists {
+        spans: Vec::with_capacity(alloc, numbers.len())?,
+        links: Vec::new(alloc),
+    };
+    let _edges = graph.edges();
+    for vertex in numbers {
+        fill_list(graph, owners, chains, out, *vertex, &mut list)?;
+        add_list(&mut list, &mut lists)?;
     }
     Ok(lists)
+}
+
+// What a machine has, where this one has each vertex.
+fn own_of(
+    alloc: Global,
+    graph: &BareGraph,
+    owners: &[u32],
+    both: &Both,
+    machine: u32,
+) -> Result<Own, NoMemory>
+    requires owners { length owners.now ≡ length graph.now.vertices }
+    requires outgoing { AreChains (length graph.now.vertices) true graph.now.edges both.now.outgoing }
+    requires incoming { AreChains (length graph.now.vertices) false graph.now.edges both.now.incoming }
+    ensures machine { IfOk result (λ own. own.machine ≡ machine) }
+    ensures own { IfOk result (IsOwn owners.now graph.now.edges) }
+{
+    let _vertices = graph.vertices();
+    let numbers = number_list(alloc, owners, machine)?;
+    let outgoing = link_all(alloc, graph, owners, &numbers, &both.outgoing, true)?;
+    let incoming = link_all(alloc, graph, owners, &numbers, &both.incoming, false)?;
+    Ok(Own {
+        machine,
+        numbers,
+        outgoing,
+        incoming,
+    })
+}
+
+/// What each machine has, where this one has each vertex.
+pub(crate) fn own_each(
+    alloc: Global,
+    graph: &BareGraph,
+    owners: &[u32],
+    both: &Both,
+    machines: u32,
+) -> Result<Vec<Own>, NoMemory>
+    requires owners { length owners.now ≡ length graph.now.vertices }
+    requires outgoing { AreChains (length graph.now.vertices) true graph.now.edges both.now.outgoing }
+    requires incoming { AreChains (length graph.now.vertices) false graph.now.edges both.now.incoming }
+    ensures machines { IfOk result (λ all. map (λ own. own.machine) all.items ≡ range_with_len 0 machines) }
+    ensures own { IfOk result (λ all. AllByRecursion (IsOwn owners.now graph.now.edges) all.items) }
+{
+    let mut all = Vec::with_capacity(alloc, machines as usize)?;
+    for machine in 0..machines {
+        all.push(own_of(alloc, graph, owners, both, machine)?)?;
+    }
+    Ok(all)
 }

@@ -4,14 +4,17 @@ ghost use Rattle.std.specs.List.{AllByRecursion};
 ghost use Rattle.std.specs.Option.{option_map};
 ghost use Rattle.element_store.specs.Columns.{value_of};
 ghost use Rattle.partition.specs.Kept.{IsPart, IsSpan, link_lists, part_in};
-ghost use Rattle.partition.specs.Parts.{adjacent_of, entry_at, lists_of};
+ghost use Rattle.partition.specs.Parts.{adjacent_of, entry_at, link_of_entry, lists_of};
 
-use crate::adjacency::{Adjacency, Link};
+use crate::adjacency::Lists;
 use crate::adjacent::Adjacent;
-use crate::site::Site;
+use crate::link::Link;
+use crate::lists::Own;
+use crate::shared::Shared;
 use adfs_base::Value;
-use element_store::Chosen;
+use std::alloc::Global;
 use std::marker::Model;
+use std::sync::Arc;
 
 /// What one machine has of a graph: its vertices in the order of their numbers, and for each of them the list
 /// of the edges that begin at it and the list of those that end at it. A list is ordered by the other end and
@@ -22,12 +25,8 @@ use std::marker::Model;
 #[derive(Drop)]
 pub struct Part {
     machines: u32,
-    site: Site,
-    vertices: Chosen,
-    // Those that begin or end at a vertex of the part.
-    edges: Chosen,
-    outgoing: Adjacency,
-    incoming: Adjacency,
+    shared: Arc<Shared, Global>,
+    own: Own,
 }
 
 impl Model for Part {
@@ -37,30 +36,20 @@ impl Model for Part {
 
     ghost use Rattle.partition.specs.Kept.{IsPart, part_in};
 
-    ghost view = { λ a. part_in a.machines a.site a.vertices.elements a.edges.elements a.outgoing a.incoming };
+    ghost view = { λ a. part_in a.machines a.shared.value a.own };
 
-    ghost invariant = { λ a. IsPart a.site a.vertices.elements a.edges.elements a.outgoing a.incoming };
+    ghost invariant = { λ a. IsPart a.shared.value a.own };
 }
 
 impl Part {
-    pub(crate) fn new(
-        machines: u32,
-        site: Site,
-        vertices: Chosen,
-        edges: Chosen,
-        outgoing: Adjacency,
-        incoming: Adjacency,
-    ) -> Part
-        requires { IsPart site vertices.elements edges.elements outgoing incoming }
-        ensures { result ≡ part_in machines site vertices.elements edges.elements outgoing incoming }
+    pub(crate) fn new(machines: u32, shared: Arc<Shared, Global>, own: Own) -> Part
+        requires { IsPart shared.value own }
+        ensures { result ≡ part_in machines shared.value own }
     {
         Part {
             machines,
-            site,
-            vertices,
-            edges,
-            outgoing,
-            incoming,
+            shared,
+            own,
         }
     }
 
@@ -68,14 +57,14 @@ impl Part {
     pub fn vertices(&self) -> u32
         ensures { result ≡ length self.now.vertices }
     {
-        self.vertices.len()
+        self.own.numbers.len() as u32
     }
 
     /// How many vertices the whole graph has.
     pub fn graph_vertices(&self) -> u32
         ensures { result ≡ length self.now.owners }
     {
-        self.site.owners.len() as u32
+        self.shared.dealing.owners.len() as u32
     }
 
     /// How many machines there are.
@@ -91,8 +80,12 @@ impl Part {
         ensures number { slice_get self.now.numbers place ≡ Some result.0 }
         ensures element { option_map {U = ℤ × ℕ} (λ v. (v.key, v.label)) (slice_get self.now.vertices place) ≡ Some (result.1, result.2) }
     {
-        let (key, label) = self.vertices.get(place);
-        (self.site.numbers[place as usize], key, label)
+        let number = self.own.numbers[place as usize];
+        (
+            number,
+            self.shared.vertices.key(number),
+            self.shared.vertices.label(number),
+        )
     }
 
     /// The place of a vertex of the graph; `None` exactly where the part lacks it.
@@ -101,7 +94,11 @@ impl Part {
         ensures place { result ≡ position (nat_eq vertex) self.now.numbers }
         ensures within { IfSome result (λ place. place < length self.now.vertices) }
     {
-        self.site.place_of(vertex)
+        if self.shared.dealing.owners[vertex as usize] == self.own.machine {
+            Some(self.shared.dealing.places[vertex as usize])
+        } else {
+            None
+        }
     }
 
     /// The machine that has a vertex of the graph.
@@ -109,7 +106,7 @@ impl Part {
         requires { vertex < length self.now.owners }
         ensures { result ≡ slice_index self.now.owners vertex }
     {
-        self.site.owners[vertex as usize]
+        self.shared.dealing.owners[vertex as usize]
     }
 
     /// The value that the vertex at a place has of a property; null where its table has no such property.
@@ -117,7 +114,8 @@ impl Part {
         requires { place < length self.now.vertices }
         ensures { option_map (λ v. value_of v.values property) (slice_get self.now.vertices place) ≡ Some result }
     {
-        self.vertices.value(place, property)
+        let number = self.own.numbers[place as usize];
+        self.shared.vertices.value(number, property)
     }
 
     /// How many entries the outgoing list of the vertex at a place has, or the incoming one.
@@ -126,21 +124,28 @@ impl Part {
         ensures length { option_map length (slice_get (lists_of out self.now) place) ≡ Some result }
         ensures there { (n : ℕ) → n < result → IsSome (entry_at out self.now place n) }
     {
-        degree_at(in_direction(out, &self.outgoing, &self.incoming), place)
+        degree_at(in_direction(out, &self.own), place)
     }
 
-    /// An entry of a list of the vertex at a place.
+    /// An entry of a list of the vertex at a place, but for its edge's key and values.
+    pub fn link(&self, place: u32, out: bool, no: u32) -> Link
+        requires { IsSome (entry_at out self.now place no) }
+        ensures { option_map link_of_entry (entry_at out self.now place no) ≡ Some result }
+    {
+        link_at(in_direction(out, &self.own), place, no)
+    }
+
+    /// An entry of a list of the vertex at a place, but for its edge's values.
     pub fn entry(&self, place: u32, out: bool, no: u32) -> Adjacent
         requires { IsSome (entry_at out self.now place no) }
         ensures { option_map adjacent_of (entry_at out self.now place no) ≡ Some result }
     {
-        let lists = in_direction(out, &self.outgoing, &self.incoming);
-        let link = link_at(lists, place, no);
+        let link = link_at(in_direction(out, &self.own), place, no);
         Adjacent {
             edge: link.edge,
-            key: self.edges.key(link.row),
+            key: self.shared.edges.key(link.edge),
             other: link.other,
-            machine: self.site.owners[link.other as usize],
+            machine: link.machine,
             label: link.label,
         }
     }
@@ -150,32 +155,31 @@ impl Part {
         requires { IsSome (entry_at out self.now place no) }
         ensures { option_map (λ e. value_of e.values property) (entry_at out self.now place no) ≡ Some result }
     {
-        let lists = in_direction(out, &self.outgoing, &self.incoming);
-        let link = link_at(lists, place, no);
-        self.edges.value(link.row, property)
+        let link = link_at(in_direction(out, &self.own), place, no);
+        self.shared.edges.value(link.edge, property)
     }
 }
 
 // The lists in one direction.
-fn in_direction<'a>(out: bool, outgoing: &'a Adjacency, incoming: &'a Adjacency) -> &'a Adjacency
-    ensures { result.now ≡ (if out then outgoing.now else incoming.now) }
+fn in_direction(out: bool, own: &Own) -> &Lists
+    ensures { result.now ≡ (if out then own.now.outgoing else own.now.incoming) }
 {
-    if out { outgoing } else { incoming }
+    if out { &own.outgoing } else { &own.incoming }
 }
 
 // How many links the list at a place has.
-fn degree_at(lists: &Adjacency, place: u32) -> u32
+fn degree_at(lists: &Lists, place: u32) -> u32
     requires place { place < length lists.now.spans.items }
-    requires spans { AllByRecursion (IsSpan lists.now.links.items) lists.now.spans.items }
+    requires spans { AllByRecursion (IsSpan (length lists.now.links.items)) lists.now.spans.items }
     ensures { option_map length (slice_get (link_lists lists.now) place) ≡ Some result }
 {
     lists.spans[place as usize].degree
 }
 
 // A link of the list at a place.
-fn link_at(lists: &Adjacency, place: u32, no: u32) -> Link
+fn link_at(lists: &Lists, place: u32, no: u32) -> Link
     requires there { IsSome (option_and_then (λ links. slice_get links no) (slice_get (link_lists lists.now) place)) }
-    requires spans { AllByRecursion (IsSpan lists.now.links.items) lists.now.spans.items }
+    requires spans { AllByRecursion (IsSpan (length lists.now.links.items)) lists.now.spans.items }
     ensures { option_and_then (λ links. slice_get links no) (slice_get (link_lists lists.now) place) ≡ Some result }
 {
     let span = lists.spans[place as usize];

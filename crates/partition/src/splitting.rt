@@ -1,80 +1,66 @@
 //! How a graph is split.
-ghost use Rattle.std.specs.Prelude.{◌≡◌, ◌<◌, ◌≤◌, ◌^◌, IfOk, length, map};
-ghost use Rattle.partition.specs.Kept.{AreLists, IsSite, entry_lists, kept_edges, touches};
+ghost use Rattle.std.specs.Prelude.{◌≡◌, ◌<◌, ◌^◌, IfOk, length, map};
+ghost use Rattle.std.specs.List.{AllByRecursion, range_with_len};
+ghost use Rattle.partition.specs.Kept.{IsOwn, IsPart, part_in};
 ghost use Rattle.partition.specs.Owners.{IsOwner};
-ghost use Rattle.partition.specs.Parts.{PartsMeet, entries_of, part_with};
+ghost use Rattle.partition.specs.Parts.{PartsMeet};
 
-use crate::adjacency::{Adjacency, in_order};
-use crate::lists::links;
+use crate::chains::deal_edges;
+use crate::dealing::deal;
+use crate::lists::{Own, own_each};
 use crate::owner::Owner;
 use crate::part::Part;
-use crate::site::{Site, owners};
+use crate::shared::Shared;
 use adfs_base::NoMemory;
-use element_store::Bits;
-use graph_tables::Graph;
+use graph_tables::{BareGraph, Graph};
 use std::alloc::Global;
+use std::sync::Arc;
 
-// A flag for each edge: whether it begins or ends at a vertex of the machine.
-fn touched(alloc: Global, graph: &Graph, site: &Site) -> Result<Bits, NoMemory>
-    requires { IsSite (length graph.now.vertices) site.now }
-    ensures { IfOk result (λ flags. flags ≡ map (touches site.now.owners.items site.now.machine) graph.now.edges) }
-{
-    let mut flags = Bits::new(alloc);
-    for number in 0..graph.edges() {
-        let (_, _, source, target) = graph.edge(number);
-        flags.push(site.touches(source, target))?;
-    }
-    Ok(flags)
-}
-
-// The lists of the machine's vertices, in one direction.
-fn adjacency(alloc: Global, graph: &Graph, site: &Site, out: bool) -> Result<Adjacency, NoMemory>
-    requires { IsSite (length graph.now.vertices) site.now }
-    ensures lists { IfOk result (λ a. AreLists (length site.now.owners.items) (length (kept_edges site.now.owners.items site.now.machine graph.now.edges)) (length site.now.numbers.items) a) }
-    ensures entries { IfOk result (λ a. entry_lists site.now.owners.items (kept_edges site.now.owners.items site.now.machine graph.now.edges) a ≡ map (λ v. entries_of site.now.owners.items out graph.now.edges v) site.now.numbers.items) }
-{
-    // What these calls promise bounds the links.
-    let _edges = graph.edges();
-    let _vertices = graph.vertices();
-    let lists = links(alloc, graph, site, out)?;
-    let adjacency = in_order(alloc, lists)?;
-    Ok(adjacency)
-}
-
-// The part of a machine, where this one has each vertex.
-fn part(
+// What each machine has, where this one has each vertex. The chains are given back.
+fn deal_out(
     alloc: Global,
-    graph: &Graph,
+    graph: &BareGraph,
     owners: &[u32],
     machines: u32,
-    machine: u32,
-) -> Result<Part, NoMemory>
+) -> Result<Vec<Own>, NoMemory>
     requires { length owners.now ≡ length graph.now.vertices }
-    ensures { IfOk result (λ part. part ≡ part_with owners.now machines graph.now machine) }
+    ensures machines { IfOk result (λ all. map (λ own. own.machine) all.items ≡ range_with_len 0 machines) }
+    ensures own { IfOk result (λ all. AllByRecursion (IsOwn owners.now graph.now.edges) all.items) }
 {
-    let _vertices = graph.vertices();
-    let site = Site::new(alloc, owners, machine)?;
-    let flags = site.flags(alloc)?;
-    let vertices = graph.choose_vertices(alloc, &flags)?;
-    let flags = touched(alloc, graph, &site)?;
-    let edges = graph.choose_edges(alloc, &flags)?;
-    let outgoing = adjacency(alloc, graph, &site, true)?;
-    let incoming = adjacency(alloc, graph, &site, false)?;
-    Ok(Part::new(machines, site, vertices, edges, outgoing, incoming))
+    let both = deal_edges(alloc, graph)?;
+    own_each(alloc, graph, owners, &both, machines)
 }
 
-// The parts of all machines.
-fn parts(alloc: Global, graph: &Graph, owner: &Owner, machines: u32) -> Result<Vec<Part>, NoMemory>
-    requires some { 0 < machines }
-    requires owner { IsOwner owner.now (length graph.now.vertices) machines }
-    ensures { IfOk result (λ parts. PartsMeet graph.now owner.now machines parts.items) }
+// The parts, of what each machine has and of what all share.
+fn parts(
+    alloc: Global,
+    machines: u32,
+    shared: &Arc<Shared, Global>,
+    all: Vec<Own>,
+) -> Result<Vec<Part>, NoMemory>
+    requires { AllByRecursion (IsPart shared.now.value) all.items }
+    ensures { IfOk result (λ parts. parts.items ≡ map (part_in machines shared.now.value) all.items) }
 {
-    let owners = owners(alloc, owner, graph.vertices(), machines)?;
-    let mut parts = Vec::with_capacity(alloc, machines as usize)?;
-    for machine in 0..machines {
-        parts.push(part(alloc, graph, &owners, machines, machine)?)?;
+    let mut parts = Vec::with_capacity(alloc, all.len())?;
+    for own in all {
+        let shared = Arc::try_clone(shared)?;
+        parts.push(Part::new(machines, shared, own))?;
     }
     Ok(parts)
+}
+
+// The same, with what they share.
+fn joined(
+    alloc: Global,
+    machines: u32,
+    shared: Shared,
+    all: Vec<Own>,
+) -> Result<Vec<Part>, NoMemory>
+    requires { AllByRecursion (IsPart shared) all.items }
+    ensures { IfOk result (λ parts. parts.items ≡ map (part_in machines shared) all.items) }
+{
+    let shared = Arc::new(alloc, shared)?;
+    parts(alloc, machines, &shared, all)
 }
 
 /// Splits a graph into the parts of machines, of which there is one at least. An owner that lists the
@@ -92,5 +78,14 @@ pub fn split(
     requires owner { IsOwner owner.now (length graph.vertices) machines }
     ensures parts { IfOk result (λ parts. PartsMeet graph owner.now machines parts.items) }
 {
-    parts(alloc, &graph, owner, machines)
+    let dealing = deal(alloc, owner, graph.vertices(), machines)?;
+    let bare = graph.into_bare()?;
+    let all = deal_out(alloc, &bare, &dealing.owners, machines)?;
+    let (vertices, edges) = bare.into_lists();
+    let shared = Shared {
+        dealing,
+        vertices,
+        edges,
+    };
+    joined(alloc, machines, shared, all)
 }

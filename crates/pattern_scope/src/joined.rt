@@ -1,5 +1,5 @@
 //! Which vertices edge patterns join.
-ghost use Rattle.std.specs.Prelude.{◌≡◌, ◌<◌, ◌≤◌, ◌++◌, ◌∷◌, ◌||◌, [], All, Bool, List, IfOk, OnOk, length, slice_index, slice_set, sum, ℕ};
+ghost use Rattle.std.specs.Prelude.{◌≡◌, ◌≢◌, ◌<◌, ◌≤◌, ◌++◌, ◌∷◌, ◌||◌, [], All, Bool, List, IfOk, OnOk, length, slice_index, slice_set, sum, ℕ};
 ghost use Rattle.std.specs.Bool.{OnFalse, OnTrue};
 ghost use Rattle.std.specs.List.{range_with_len};
 ghost use Rattle.pattern_scope.specs.Joined as spec;
@@ -55,6 +55,24 @@ fn hang(parents: &mut [usize], child: usize, parent: usize)
     parents[child] = parent;
 }
 
+// Lets the earlier of two variables that have stood for themselves stand for the other.
+fn tie(parents: &mut [usize], a: usize, b: usize)
+    requires forest { spec.IsForest parents.old }
+    requires inside { spec.IsWithin (length parents.old) (a, b) }
+    requires roots { (slice_index parents.old a ≡ a) × (slice_index parents.old b ≡ b) }
+    requires apart { a ≢ b }
+    ensures as_many { length parents.new ≡ length parents.old }
+    ensures forest { spec.IsForest parents.new }
+    ensures respected { (set : ℕ → Bool) → spec.Respects set parents.old → set a ≡ set b → spec.Respects set parents.new }
+    ensures fewer { sum parents.new < sum parents.old }
+{
+    if a < b {
+        hang(parents, b, a);
+    } else {
+        hang(parents, a, b);
+    }
+}
+
 // Joins two variables, and returns whether they were not known to be joined.
 fn unite(parents: &mut [usize], left: usize, right: usize) -> bool
     requires forest { spec.IsForest parents.old }
@@ -71,11 +89,7 @@ fn unite(parents: &mut [usize], left: usize, right: usize) -> bool
     if a == b {
         return false;
     }
-    if a < b {
-        hang(parents, b, a);
-    } else {
-        hang(parents, a, b);
-    }
+    tie(parents, a, b);
     true
 }
 

@@ -277,13 +277,20 @@ impl Scope {
     }
 }
 
+fn add_paths(alloc: Global, paths: &[Path], scope: &mut Scope) -> Result<(), NoMemory>
+    ensures { OnOk result (scope.new ≡ fold spec.after_path scope.old paths.now) }
+{
+    for path in paths {
+        scope.path(alloc, path)?;
+    }
+    Ok(())
+}
+
 /// What all the patterns declare.
 pub fn scope_of(alloc: Global, paths: &[Path]) -> Result<Scope, NoMemory>
     ensures { IfOk result (λ scope. scope ≡ spec.scope_of paths.now) }
 {
     let mut scope = Scope::new(alloc);
-    for path in paths {
-        scope.path(alloc, path)?;
-    }
+    add_paths(alloc, paths, &mut scope)?;
     Ok(scope)
 }

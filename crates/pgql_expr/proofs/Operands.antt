@@ -1,5 +1,5 @@
 -- What begins with an operand, as what is made of the operand.
-use Rattle.std.proofs.Common.{◌≡◌, ℕ, ◌+◌, Bool, true, false, List, [], ◌∷◌, Ok, Err, refl, sym, ap, ◌∙◌}
+use Rattle.std.proofs.Common.{◌≡◌, ℕ, ◌+◌, Bool, true, false, List, [], ◌∷◌, Ok, Err, refl, sym}
 use Rattle.pgql_lexemes.specs.declared.kind.Kind.{Kind}
 use Rattle.pgql_lexemes.specs.declared.kind.Kind.TheVariants as k
 use Rattle.pgql_tree.specs.declared.ast.AstExpr.{AstExpr}
@@ -10,7 +10,8 @@ use Rattle.pgql_tree.specs.declared.level.Level.TheVariants.{Or, Sum}
 use Rattle.pgql_tree.specs.Levels.{tighter}
 use Rattle.pgql_expr.specs.declared.found.Found.{Found}
 use Rattle.pgql_lexemes.specs.Lexemes.{Lexeme}
-use Rattle.pgql_expr.specs.Reading.{Outcome, Parser, and_then, ◌>>=◌, ◌>>◌, pure, take_token, expect, deeper, found, null_by, null_word, null_words_by, null_words, is_words, operand, joined, inside, marked, longer, compared, read_null}
+use Rattle.pgql_expr.specs.Reading.{Outcome, Parser, and_then, ◌>>=◌, ◌>>◌, pure, take_token, expect, deeper, found, null_by, null_word, null_words_by, null_words}
+use Rattle.pgql_expr.specs.Reading.{is_words, operand, joined, inside, marked, longer, compared, read_null}
 
 then_assoc : {A B C : Type 0} (o : Outcome A) (f : A → Parser B) (g : B → Parser C) → and_then (and_then o f) g ≡ and_then o (λ x. f x >>= g)
 then_assoc (Ok p) f g = refl

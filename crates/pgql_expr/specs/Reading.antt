@@ -11,7 +11,7 @@ use Rattle.pgql_expr.specs.declared.found.Found.{Found}
 use Rattle.pgql_tree.specs.declared.level.Level.TheVariants.{Or, And, Not, Test, Sum, Product, Sign, Primary}
 use Rattle.pgql_expr.specs.declared.leaf.Function.{Function}
 use Rattle.pgql_expr.specs.declared.leaf.Function.TheVariants.{Id, Label}
-use Rattle.pgql_lexemes.specs.Lexemes.{Lexeme, is_word, value_of, content_of, is_id, is_label, place}
+use Rattle.pgql_lexemes.specs.Lexemes.{Lexeme, value_of, content_of, is_id, is_label}
 use Rattle.pgql_lexemes.specs.Operators.{operator, comparison}
 use Rattle.pgql_tree.specs.Levels.{tighter}
 pub use Rattle.pgql_lexemes.specs.Parsers.{Refusal, unexpected, deep, Outcome, Parser, and_then, ◌>>=◌, ◌>>◌, pure, here, refuse, first, by_first, by_next, take_token, expect_by, deeper_by}

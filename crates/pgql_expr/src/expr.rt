@@ -23,7 +23,7 @@ fn next_operator(level: Level, input: &Input<'_>) -> Option<Op>
 }
 
 /// A sign minus before it.
-fn negation(alloc: Global, x: Found, at: u32) -> Result<Found, Stop>
+fn with_minus(alloc: Global, x: Found, at: u32) -> Result<Found, Stop>
     requires { x.height + 1 < 2 ^ 32 }
     ensures made { Makes (spec.found (AstExpr.Neg x.expr at) (x.height + 1)) result }
     ensures low { IfOk result (λ y. y.height ≡ x.height + 1) }
@@ -38,7 +38,7 @@ fn negation(alloc: Global, x: Found, at: u32) -> Result<Found, Stop>
 }
 
 /// NOT before it.
-fn denial(alloc: Global, x: Found, at: u32) -> Result<Found, Stop>
+fn with_not(alloc: Global, x: Found, at: u32) -> Result<Found, Stop>
     requires { x.height + 1 < 2 ^ 32 }
     ensures made { Makes (spec.found (AstExpr.Not x.expr at) (x.height + 1)) result }
     ensures low { IfOk result (λ y. y.height ≡ x.height + 1) }
@@ -101,6 +101,17 @@ fn joined(alloc: Global, op: Op, at: u32, left: Found, right: Found) -> Result<F
     let height = left.height.max(right.height) + 1;
     let left = Boxed::new(alloc, left.expr)?;
     binary(alloc, op, at, left, right.expr, height)
+}
+
+/// The same in parentheses.
+fn raised(x: Found) -> Found
+    requires { x.height + 1 < 2 ^ 32 }
+    ensures { result ≡ spec.found x.expr (x.height + 1) }
+{
+    Found {
+        expr: x.expr,
+        height: x.height + 1,
+    }
 }
 
 /// `[NOT] NULL`, and whether NOT stands there.
@@ -180,10 +191,7 @@ impl<F: Fn(Global, &mut Input<'_>, u32, Level) -> Result<Found, Stop>> Grammar<F
     {
         let x = self.operand(input, 0, Level::Or)?;
         input.expect(Kind::Close)?;
-        Ok(Found {
-            expr: x.expr,
-            height: x.height + 1,
-        })
+        Ok(raised(x))
     }
 
     #[tactic(auto, unfolding(crate::specs::Reading::read_primary, crate::specs::Reading::read_level))]
@@ -203,13 +211,13 @@ impl<F: Fn(Global, &mut Input<'_>, u32, Level) -> Result<Found, Stop>> Grammar<F
 
     /// `- Sign`
     #[tactic(auto, using(crate::proofs::Operands::marked_is))]
-    fn negated(&self, input: &mut Input<'_>, at: u32) -> Result<Found, Stop>
+    fn minus(&self, input: &mut Input<'_>, at: u32) -> Result<Found, Stop>
         requires { Nests self.now.most (F.pre self.now.nested) (F.post self.now.nested) }
         ensures reads { Reads (spec.marked self.now.most (spec.nested self.now.most) Level.Sign (λ x. AstExpr.Neg x at) input.old) result input.new }
         ensures low { IfOk result (λ x. x.height ≤ self.now.most) }
     {
         let x = self.operand(input, 0, Level::Sign)?;
-        negation(self.alloc, x, at)
+        with_minus(self.alloc, x, at)
     }
 
     /// `- Sign | Primary`
@@ -223,7 +231,7 @@ impl<F: Fn(Global, &mut Input<'_>, u32, Level) -> Result<Found, Stop>> Grammar<F
             return Err(Stop::Unexpected);
         };
         match t.kind {
-            Kind::Minus => self.negated(input, t.at),
+            Kind::Minus => self.minus(input, t.at),
             _ => self.primary(input),
         }
     }
@@ -368,7 +376,7 @@ impl<F: Fn(Global, &mut Input<'_>, u32, Level) -> Result<Found, Stop>> Grammar<F
         ensures low { IfOk result (λ x. x.height ≤ self.now.most) }
     {
         let x = self.operand(input, 0, Level::Not)?;
-        denial(self.alloc, x, at)
+        with_not(self.alloc, x, at)
     }
 
     /// `NOT Not | Test`

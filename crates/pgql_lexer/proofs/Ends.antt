@@ -41,7 +41,7 @@ behind byte bytes n f = record {
   first = λ k lt is. f.first (suc k) (omega arith) (next_closes byte bytes k ∙ is);
 }
 
-closed_there : (place : ℕ) (content : Bytes) (end : ℕ) → comment_end place content ≡ Some end → (n : ℕ) × IsFirstClose content n × (end ≡ place + n + 2)
+pub closed_there : (place : ℕ) (content : Bytes) (end : ℕ) → comment_end place content ≡ Some end → (n : ℕ) × IsFirstClose content n × (end ≡ place + n + 2)
 closed_there place [] end e = absurd cc
 closed_there place (byte ∷ bytes) end e = by_test (λ later. closed_there (place + 1) bytes end later) (closes_comment byte (slice_index bytes 0)) refl e
   where
@@ -101,7 +101,7 @@ pushed_double place one other bytes end a b w = (
   (let same = w.3 in omega arith),
 )
 
-closed_so : (place : ℕ) (text : Bytes) (end : ℕ) → literal_end false place text ≡ Some end → Closes place text end
+pub closed_so : (place : ℕ) (text : Bytes) (end : ℕ) → literal_end false place text ≡ Some end → Closes place text end
 closed_so place [] end e = absurd cc
 closed_so place (byte ∷ []) end e = by_quote (is_quote byte) refl e
   where

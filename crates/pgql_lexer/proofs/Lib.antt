@@ -4,3 +4,4 @@ mod Parts
 pub mod Steps
 mod Scanning
 mod Ends
+mod Cuts

@@ -37,7 +37,7 @@ pub stops : (whole : Lexed) (found : List Token) (place : ℕ) (rest : Bytes) (e
 stops whole found place rest e some so_far told = so_far ∙ ap (with_front found) (tokens_from-front place rest some ∙ told (λ passed. tokens_from passed (place + 1) (drop 1 rest)))
 
 -- the text behind the bytes at its front
-behind : (count place : ℕ) (text : Bytes) → 1 ≤ count → tokens_from (count - 1) (place + 1) (drop 1 text) ≡ tokens_from 0 (place + count) (drop count text)
+pub behind : (count place : ℕ) (text : Bytes) → 1 ≤ count → tokens_from (count - 1) (place + 1) (drop 1 text) ≡ tokens_from 0 (place + count) (drop count text)
 behind count place text some =
     let place_after : (place + 1) + (count - 1) ≡ place + count = omega arith in
     tokens_from-drop (count - 1) (place + 1) (drop 1 text)

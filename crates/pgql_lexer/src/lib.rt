@@ -19,7 +19,10 @@ mod scan;
 mod token;
 mod tokens;
 
-pub use laws::{comments_end_at_the_first_close, literals_end_at_the_first_lone_quote};
+pub use laws::{
+    comments_end_at_the_first_close, literals_end_at_the_first_lone_quote, marks_cut_the_text,
+    tokens_cut_the_text,
+};
 pub use pieces::cut;
 pub use scan::{check, first_token};
 pub use token::{LexFault, Token, TokenKind};

@@ -1,3 +1,4 @@
+//! Where the queries of a file stand.
 ghost use Rattle.std.specs.Prelude.{◌≡◌, ◌≢◌, ℕ, ◌<◌, ◌≤◌, ◌+◌, ◌-◌, ◌^◌, ◌++◌, drop, length, All, IfOk, OnOk};
 ghost use Rattle.pgql_lexer.specs.Fronts as front;
 ghost use Rattle.pgql_lexer.specs.Pieces.{comment_marked, kept, marked_front, pieces};

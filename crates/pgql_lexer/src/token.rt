@@ -1,3 +1,4 @@
+//! Tokens, and why a text has none.
 use std::alloc::AllocError;
 
 /// What a token is.

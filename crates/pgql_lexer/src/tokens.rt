@@ -1,3 +1,4 @@
+//! The tokens of a text.
 ghost use Rattle.std.specs.Prelude.{◌≡◌, ◌≢◌, ℕ, ◌<◌, ◌≤◌, ◌+◌, ◌-◌, ◌^◌, length, All, IfOk, IfErr};
 ghost use Rattle.pgql_lexer.specs.Fronts.{FitsIn};
 ghost use Rattle.pgql_lexer.specs.Tokens.{Gives, Lexed, TokenBetween, TokensBetween, lexed_after, tokens, with_front};

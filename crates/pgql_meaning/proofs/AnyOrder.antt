@@ -14,9 +14,9 @@ use Rattle.answer_rows.proofs.Kept.{second_by}
 use Rattle.answer_rows.proofs.Permuted.{bare, rows_of-permuted}
 use Rattle.answer_rows.proofs.Ties.{equal_by, row-one}
 use Rattle.graph_tables.specs.Graph.{PropertyGraph}
-use Rattle.typed_expr.specs.Val.{val}
-use Rattle.typed_expr.specs.declared.expr.Expr.{Expr}
-use Rattle.typed_expr.specs.declared.query.Query.{Query}
+use Rattle.typed_query.specs.Val.{val}
+use Rattle.typed_query.specs.declared.expr.Expr.{Expr}
+use Rattle.typed_query.specs.declared.query.Query.{Query}
 use Rattle.pgql_meaning.specs.Answer.{answer_of, all_matches, arrangement_of, order_of, row_of, shown}
 use Rattle.pgql_meaning.specs.Captured.{captured}
 use Rattle.pgql_meaning.specs.Shown.{HasMeaning, HasShown}

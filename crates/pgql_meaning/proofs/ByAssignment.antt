@@ -10,7 +10,7 @@ use Rattle.sorted_lists.proofs.Ascending.{Ascends, in_order-ascending}
 use Rattle.answer_rows.specs.Arranged.{Shown, kept, limited, match_order}
 use Rattle.answer_rows.specs.Orders.{numbers_order}
 use Rattle.graph_tables.specs.Graph.{PropertyGraph}
-use Rattle.typed_expr.specs.declared.query.Query.{Query}
+use Rattle.typed_query.specs.declared.query.Query.{Query}
 use Rattle.pgql_meaning.specs.Answer.{answer_of, all_matches, arrangement_of, row_of, shown}
 use Rattle.pgql_meaning.proofs.Matches.{matches_ascend}
 

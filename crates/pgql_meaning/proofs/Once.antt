@@ -9,7 +9,7 @@ use Rattle.answer_rows.specs.Orders.{row_order}
 use Rattle.answer_rows.proofs.Once.{rows_of-each, rows_of-once}
 use Rattle.answer_rows.proofs.Ties.{equal_by, row-one}
 use Rattle.graph_tables.specs.Graph.{PropertyGraph}
-use Rattle.typed_expr.specs.declared.query.Query.{Query}
+use Rattle.typed_query.specs.declared.query.Query.{Query}
 use Rattle.pgql_meaning.specs.Answer.{answer_of, all_matches, arrangement_of, row_of, shown}
 use Rattle.pgql_meaning.specs.Laws.{HasEachRow, RowsStandOnce, without_limit}
 use Rattle.pgql_meaning.specs.Shown.{HasMeaning, HasShown}

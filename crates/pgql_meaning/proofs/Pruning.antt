@@ -4,10 +4,10 @@ use Rattle.std.specs.List.{list_all, range_with_len, slice_get}
 use Rattle.std.specs.Option.{option_and_then, option_map_or}
 use Rattle.std.proofs.lemmas.Option.{slice_get_within}
 use Rattle.graph_tables.specs.Graph.{Edge, PropertyGraph}
-use Rattle.typed_expr.specs.Val.{passes, val}
-use Rattle.typed_expr.specs.declared.query.EdgeJoin.{EdgeJoin}
-use Rattle.typed_expr.specs.declared.query.Query.{Query}
-use Rattle.typed_expr.specs.declared.query.Variable.{Variable}
+use Rattle.typed_query.specs.Val.{passes, val}
+use Rattle.typed_query.specs.declared.query.EdgeJoin.{EdgeJoin}
+use Rattle.typed_query.specs.declared.query.Query.{Query}
+use Rattle.typed_query.specs.declared.query.Variable.{Variable}
 use Rattle.pgql_meaning.specs.Assignments.{extensions}
 use Rattle.pgql_meaning.specs.Captured.{captured, number_of}
 use Rattle.pgql_meaning.specs.Fits.{Labels, Joined, Holds, fits, is_joined, is_labelled, is_number, meets, runs_between}

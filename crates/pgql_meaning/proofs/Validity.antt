@@ -9,15 +9,15 @@ use Rattle.answer_rows.proofs.Every.{All-rows_of}
 use Rattle.element_store.specs.Columns.{Cell, value_of}
 use Rattle.element_store.specs.Elements.{Element}
 use Rattle.graph_tables.specs.Graph.{IsShown, PropertyGraph, without_ends}
-use Rattle.typed_expr.specs.Parts.{HasValidConstants}
-use Rattle.typed_expr.specs.Val.{val}
-use Rattle.typed_expr.specs.declared.expr.Expr.{Expr}
-use Rattle.typed_expr.specs.declared.query.Capture.{Capture}
-use Rattle.typed_expr.specs.declared.query.Query.{Query}
-use Rattle.typed_expr.specs.declared.query.Variable.{Variable}
-use Rattle.typed_expr.specs.declared.query.What.{What}
-use Rattle.typed_expr.specs.declared.query.What.TheVariants as what
-use Rattle.typed_expr.proofs.Validity.{value-valid}
+use Rattle.typed_query.specs.Parts.{HasValidConstants}
+use Rattle.typed_query.specs.Val.{val}
+use Rattle.typed_query.specs.declared.expr.Expr.{Expr}
+use Rattle.typed_query.specs.declared.query.Capture.{Capture}
+use Rattle.typed_query.specs.declared.query.Query.{Query}
+use Rattle.typed_query.specs.declared.query.Variable.{Variable}
+use Rattle.typed_query.specs.declared.query.What.{What}
+use Rattle.typed_query.specs.declared.query.What.TheVariants as what
+use Rattle.typed_query.proofs.Validity.{value-valid}
 use Rattle.value_text.specs.Valid.{IsValid}
 use Rattle.pgql_meaning.specs.Answer.{answer_of, all_matches, arrangement_of, row_of, shown as assignment_shown}
 use Rattle.pgql_meaning.specs.Captured.{captured, captured_value, element_at, number_of, use_of}

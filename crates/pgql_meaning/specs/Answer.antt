@@ -3,8 +3,8 @@ use Rattle.std.specs.Prelude.{ℕ, List, map, filter}
 use Rattle.adfs_base.specs.declared.value.Value.{Value}
 use Rattle.answer_rows.specs.Arranged.{Arrangement, Shown, rows_of}
 use Rattle.graph_tables.specs.Graph.{PropertyGraph}
-use Rattle.typed_expr.specs.Val.{val}
-use Rattle.typed_expr.specs.declared.query.Query.{Query}
+use Rattle.typed_query.specs.Val.{val}
+use Rattle.typed_query.specs.declared.query.Query.{Query}
 use Rattle.pgql_meaning.specs.Assignments.{assignments, ranges_of}
 use Rattle.pgql_meaning.specs.Captured.{captured}
 use Rattle.pgql_meaning.specs.Fits.{fits}

@@ -2,7 +2,7 @@
 use Rattle.std.specs.Prelude.{ℕ, Bool, List, [], ◌∷◌, ◌++◌, filter, length, map, if◌then◌else◌}
 use Rattle.std.specs.List.{flat_map, range_with_len}
 use Rattle.graph_tables.specs.Graph.{PropertyGraph}
-use Rattle.typed_expr.specs.declared.query.Variable.{Variable}
+use Rattle.typed_query.specs.declared.query.Variable.{Variable}
 
 -- every list of numbers, one below each of these bounds, in ascending lexicographic order
 abbrev pub assignments : List ℕ → List (List ℕ)

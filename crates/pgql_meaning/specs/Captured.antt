@@ -6,11 +6,11 @@ use Rattle.adfs_base.specs.declared.value.Value.TheVariants as value
 use Rattle.element_store.specs.Columns.{value_of}
 use Rattle.element_store.specs.Elements.{Element}
 use Rattle.graph_tables.specs.Graph.{PropertyGraph, without_ends}
-use Rattle.typed_expr.specs.declared.query.Capture.{Capture}
-use Rattle.typed_expr.specs.declared.query.Query.{Query}
-use Rattle.typed_expr.specs.declared.query.Variable.{Variable}
-use Rattle.typed_expr.specs.declared.query.What.{What}
-use Rattle.typed_expr.specs.declared.query.What.TheVariants as what
+use Rattle.typed_query.specs.declared.query.Capture.{Capture}
+use Rattle.typed_query.specs.declared.query.Query.{Query}
+use Rattle.typed_query.specs.declared.query.Variable.{Variable}
+use Rattle.typed_query.specs.declared.query.What.{What}
+use Rattle.typed_query.specs.declared.query.What.TheVariants as what
 
 -- the number of the element for which the variable of this number stands; none where the assignment ends before it
 abbrev pub number_of : List ℕ → ℕ → Option ℕ

@@ -5,10 +5,10 @@ use Rattle.std.specs.Option.{option_and_then, option_map_or}
 use Rattle.std.specs.Str.{bytes_eq}
 use Rattle.element_store.specs.Elements.{Element}
 use Rattle.graph_tables.specs.Graph.{Edge, PropertyGraph}
-use Rattle.typed_expr.specs.Val.{passes, val}
-use Rattle.typed_expr.specs.declared.expr.Expr.{Expr}
-use Rattle.typed_expr.specs.declared.query.EdgeJoin.{EdgeJoin}
-use Rattle.typed_expr.specs.declared.query.Query.{Query}
+use Rattle.typed_query.specs.Val.{passes, val}
+use Rattle.typed_query.specs.declared.expr.Expr.{Expr}
+use Rattle.typed_query.specs.declared.query.EdgeJoin.{EdgeJoin}
+use Rattle.typed_query.specs.declared.query.Query.{Query}
 use Rattle.value_text.specs.Texts.{text_at}
 use Rattle.pgql_meaning.specs.Captured.{captured, element_of, number_of}
 

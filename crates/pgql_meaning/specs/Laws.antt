@@ -6,7 +6,7 @@ use Rattle.std.specs.Str.{bytes_eq}
 use Rattle.answer_rows.specs.Arranged.{limited}
 use Rattle.answer_rows.specs.Orders.{numbers_order}
 use Rattle.graph_tables.specs.Graph.{PropertyGraph}
-use Rattle.typed_expr.specs.declared.query.Query.{Query}
+use Rattle.typed_query.specs.declared.query.Query.{Query}
 use Rattle.pgql_meaning.specs.Answer.{all_matches, answer_of, row_of}
 use Rattle.pgql_meaning.specs.Assignments.{ranges_of}
 use Rattle.pgql_meaning.specs.Fits.{fits}

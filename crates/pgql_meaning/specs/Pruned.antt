@@ -3,8 +3,8 @@ use Rattle.std.specs.Prelude.{ℕ, ◌-◌, ◌==◌, ◌&&◌, ◌||◌, Bool, 
 use Rattle.std.specs.List.{list_all}
 use Rattle.std.specs.Option.{option_map_or}
 use Rattle.graph_tables.specs.Graph.{Edge, PropertyGraph}
-use Rattle.typed_expr.specs.declared.query.EdgeJoin.{EdgeJoin}
-use Rattle.typed_expr.specs.declared.query.Query.{Query}
+use Rattle.typed_query.specs.declared.query.EdgeJoin.{EdgeJoin}
+use Rattle.typed_query.specs.declared.query.Query.{Query}
 use Rattle.pgql_meaning.specs.Captured.{element_of, number_of}
 use Rattle.pgql_meaning.specs.Fits.{has_labels}
 

@@ -3,9 +3,9 @@ use Rattle.std.specs.Prelude.{ℕ, List, All}
 use Rattle.std.specs.List.{AllByRecursion}
 use Rattle.adfs_base.specs.declared.value.Value.{Value}
 use Rattle.graph_tables.specs.Graph.{IsShown, PropertyGraph, without_ends}
-use Rattle.typed_expr.specs.Parts.{HasValidConstants}
-use Rattle.typed_expr.specs.WellFormed.{expressions}
-use Rattle.typed_expr.specs.declared.query.Query.{Query}
+use Rattle.typed_query.specs.Parts.{HasValidConstants}
+use Rattle.typed_query.specs.WellFormed.{expressions}
+use Rattle.typed_query.specs.declared.query.Query.{Query}
 use Rattle.value_text.specs.Valid.{IsValid}
 
 -- The labels and the values of the graph's elements mean something under the texts.

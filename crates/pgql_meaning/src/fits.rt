@@ -1,9 +1,9 @@
 //! Which assignments fit.
-ghost use Rattle.std.specs.Prelude.{◌≡◌, length, false};
+ghost use Rattle.std.specs.Prelude.{◌≡◌, length, slice_get, false};
 ghost use Rattle.std.specs.List.{list_all, list_any, range_with_len};
-ghost use Rattle.std.specs.Option.{option_copied, option_map, option_map_or};
+ghost use Rattle.std.specs.Option.{option_and_then, option_copied, option_map, option_map_or};
 ghost use Rattle.std.specs.Str.{bytes_eq};
-ghost use Rattle.typed_expr.specs.Val as val;
+ghost use Rattle.typed_query.specs.Val as val;
 ghost use Rattle.value_text.specs.Texts.{text_at};
 ghost use Rattle.pgql_meaning.specs.Captured as captured;
 ghost use Rattle.pgql_meaning.specs.Fits as spec;
@@ -12,7 +12,7 @@ ghost use Rattle.pgql_meaning.specs.Pruned as pruned;
 use adfs_base::{Name, Value};
 use graph_tables::Graph;
 use sqlite_items::Items;
-use typed_expr::{EdgeJoin, Expr, Query, Variable, passes, value};
+use typed_query::{EdgeJoin, Expr, Query, Variable, passes, value};
 use value_text::Texts;
 
 fn is_in(label: &[u8], list: &Items<Name>) -> bool
@@ -98,14 +98,21 @@ fn may_join_all(graph: &Graph, query: &Query, numbers: &[u32]) -> bool
         .all(|join| may_join(graph, numbers, join))
 }
 
+// The same of the element that a variable stands for, where it has a number.
+fn has_labels_of(graph: &Graph, texts: &Texts, variable: &Variable, number: Option<&u32>) -> bool
+    ensures { result ≡ option_map_or (spec.has_labels texts.now variable.now.labels) (option_and_then (captured.element_at graph.now variable.now) (option_copied number.entry)) false }
+{
+    match number {
+        Some(number) => has_labels(graph, texts, variable, *number),
+        None => false,
+    }
+}
+
 fn may_label_at(graph: &Graph, query: &Query, texts: &Texts, numbers: &[u32], place: usize) -> bool
     ensures { result ≡ pruned.may_label_at texts.now graph.now query.now numbers.now place }
 {
     match query.variables.as_slice().get(place) {
-        Some(variable) => match numbers.get(place) {
-            Some(number) => has_labels(graph, texts, variable, *number),
-            None => false,
-        },
+        Some(variable) => has_labels_of(graph, texts, variable, numbers.get(place)),
         None => true,
     }
 }
@@ -119,19 +126,34 @@ pub fn may_fit(graph: &Graph, query: &Query, texts: &Texts, numbers: &[u32]) -> 
         && may_join_all(graph, query, numbers)
 }
 
+fn is_number(assigned: Option<&u32>, number: u32) -> bool
+    ensures { result ≡ spec.is_number (option_copied assigned.entry) number }
+{
+    match assigned {
+        Some(assigned) => *assigned == number,
+        None => false,
+    }
+}
+
+// Whether there is an edge of this number, and it runs between these vertices.
+fn runs_between(graph: &Graph, edge: u32, source: Option<&u32>, target: Option<&u32>) -> bool
+    ensures { result ≡ option_map_or (spec.runs_between (option_copied source.entry) (option_copied target.entry)) (slice_get graph.now.edges edge) false }
+{
+    if graph.edges() <= edge {
+        return false;
+    }
+    let (_, _, from, to) = graph.edge(edge);
+    is_number(source, from) && is_number(target, to)
+}
+
 fn is_joined(graph: &Graph, numbers: &[u32], join: &EdgeJoin) -> bool
     ensures { result ≡ spec.is_joined graph.now numbers.now join.now }
 {
-    match (
-        numbers.get(join.edge as usize),
-        numbers.get(join.source as usize),
-        numbers.get(join.target as usize),
-    ) {
-        (Some(edge), Some(from), Some(to)) if *edge < graph.edges() => {
-            let (_, _, source, target) = graph.edge(*edge);
-            *from == source && *to == target
-        }
-        _ => false,
+    let source = numbers.get(join.source as usize);
+    let target = numbers.get(join.target as usize);
+    match numbers.get(join.edge as usize) {
+        Some(edge) => runs_between(graph, *edge, source, target),
+        None => false,
     }
 }
 
@@ -148,9 +170,9 @@ fn are_joined(graph: &Graph, query: &Query, numbers: &[u32]) -> bool
 fn is_labelled(graph: &Graph, query: &Query, texts: &Texts, numbers: &[u32], place: usize) -> bool
     ensures { result ≡ spec.is_labelled texts.now graph.now query.now numbers.now place }
 {
-    match (query.variables.as_slice().get(place), numbers.get(place)) {
-        (Some(variable), Some(number)) => has_labels(graph, texts, variable, *number),
-        _ => false,
+    match query.variables.as_slice().get(place) {
+        Some(variable) => has_labels_of(graph, texts, variable, numbers.get(place)),
+        None => false,
     }
 }
 

@@ -1,13 +1,14 @@
+//! The answer of a query, by nested loops.
 ghost use Rattle.std.specs.Prelude.{◌≡◌, IfOk, map};
 ghost use Rattle.pgql_meaning.specs.Answer as answer;
 ghost use Rattle.pgql_meaning.specs.Shown.{AreShown, HasMeaning, HasShown};
 
 use crate::search::{Found, extend};
 use adfs_base::NoMemory;
-use answer_rows::{Arrangement, Row, rows_in_order};
+use answer_rows::{Arrangement, Match, Row, rows_in_order};
 use graph_tables::Graph;
 use std::alloc::Global;
-use typed_expr::{Expr, Query};
+use typed_query::{Expr, Query};
 use value_text::Texts;
 
 fn downs_of(alloc: Global, keys: &[(Expr, bool)]) -> Result<Vec<bool>, NoMemory>
@@ -28,6 +29,34 @@ pub fn arrangement_of(alloc: Global, query: &Query) -> Result<Arrangement, NoMem
     Ok(Arrangement::new(downs, query.distinct, query.limit))
 }
 
+// The matches of a query over a graph, in their order.
+fn matches_of(
+    alloc: Global,
+    graph: &Graph,
+    texts: &Texts,
+    query: &Query,
+) -> Result<Vec<Match>, NoMemory>
+    ensures { IfOk result (λ found. found.items ≡ map (answer.shown texts.now graph.now query.now) (answer.all_matches texts.now graph.now query.now)) }
+{
+    let mut numbers = Vec::new(alloc);
+    let mut found = Found {
+        values: Vec::new(alloc),
+        matches: Vec::new(alloc),
+    };
+    let variables = query.variables.as_slice();
+    extend(
+        alloc,
+        graph,
+        query,
+        texts,
+        variables,
+        &mut numbers,
+        &mut found,
+    )?;
+    let Found { matches, .. } = found;
+    Ok(matches)
+}
+
 /// The answer of a query over a graph, by nested loops: exactly `answer_of`.
 ///
 /// The texts are those that the graph's labels and values and the query's constants name.
@@ -40,21 +69,7 @@ pub fn answer_plain(
     ensures answer { IfOk result (λ rows. rows.items ≡ answer.answer_of texts.now graph.now query.now) }
     ensures shown { HasShown texts.now graph.now → HasMeaning texts.now query.now → IfOk result (λ rows. AreShown texts.now rows.items) }
 {
+    let matches = matches_of(alloc, graph, texts, query)?;
     let arrangement = arrangement_of(alloc, query)?;
-    let mut numbers = Vec::new(alloc);
-    let mut found = Found {
-        values: Vec::new(alloc),
-        matches: Vec::new(alloc),
-    };
-    extend(
-        alloc,
-        graph,
-        query,
-        texts,
-        query.variables.as_slice(),
-        &mut numbers,
-        &mut found,
-    )?;
-    let Found { matches, .. } = found;
     rows_in_order(alloc, matches, &arrangement, texts)
 }

@@ -1,6 +1,6 @@
 //! All matches of a query, by a loop for each variable.
 ghost use Rattle.std.specs.Prelude.{◌≡◌, ◌++◌, [], ◌∷◌, OnOk, IfOk, filter, map};
-ghost use Rattle.typed_expr.specs.Val as val;
+ghost use Rattle.typed_query.specs.Val as val;
 ghost use Rattle.pgql_meaning.specs.Answer as answer;
 ghost use Rattle.pgql_meaning.specs.Assignments as assignments;
 ghost use Rattle.pgql_meaning.specs.Fits as spec;
@@ -11,7 +11,7 @@ use adfs_base::{Name, NoMemory, Value};
 use answer_rows::{Match, Row};
 use graph_tables::Graph;
 use std::alloc::Global;
-use typed_expr::{Expr, Query, Variable, value};
+use typed_query::{Expr, Query, Variable, value};
 use value_text::Texts;
 
 /// The matches found so far, with room for the captured values of one more.
@@ -66,6 +66,27 @@ pub fn shown(
     Ok(Match::new(keys, Row::new(row), numbers))
 }
 
+// The match of an assignment that is borrowed.
+fn match_of(
+    alloc: Global,
+    query: &Query,
+    texts: &Texts,
+    numbers: &[u32],
+    values: &[Value],
+) -> Result<Match, NoMemory>
+    ensures { IfOk result (λ found. found ≡ answer.shown_by texts.now query.now values.now numbers.now) }
+{
+    let numbers = numbers.to_vec(alloc)?;
+    shown(alloc, query, texts, numbers, values)
+}
+
+fn push_match(found: Match, matches: &mut Vec<Match>) -> Result<(), NoMemory>
+    ensures { OnOk result (matches.new.items ≡ matches.old.items ++ found ∷ []) }
+{
+    matches.push(found)?;
+    Ok(())
+}
+
 // Adds the match of an assignment, if it fits.
 fn add_if_fits(
     alloc: Global,
@@ -78,13 +99,11 @@ fn add_if_fits(
     ensures { OnOk result (found.new.matches.items ≡ found.old.matches.items ++ map (answer.shown texts.now graph.now query.now) (filter (spec.fits texts.now graph.now query.now) (numbers.now ∷ []))) }
 {
     capture(graph, query, numbers, &mut found.values)?;
-    if fits(graph, query, texts, numbers, &found.values) {
-        let numbers = numbers.to_vec(alloc)?;
-        found
-            .matches
-            .push(shown(alloc, query, texts, numbers, &found.values)?)?;
+    if !fits(graph, query, texts, numbers, &found.values) {
+        return Ok(());
     }
-    Ok(())
+    let shown = match_of(alloc, query, texts, numbers, &found.values)?;
+    push_match(shown, &mut found.matches)
 }
 
 fn range_of(graph: &Graph, variable: &Variable) -> u32

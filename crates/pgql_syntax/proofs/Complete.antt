@@ -18,7 +18,9 @@ use Rattle.pgql_syntax.specs.Grammar.{IsExpr}
 use Rattle.pgql_lexemes.specs.Operators.{operator, comparison}
 use Rattle.pgql_tree.specs.Levels.{tighter}
 use Rattle.pgql_syntax.specs.Grammar as g
-use Rattle.pgql_expr.specs.Reading.{unexpected, Outcome, Parser, found, chosen, and_then, ◌>>=◌, ◌>>◌, pure, refuse, by_next, take_token, expect_by, expect, expect_word, deeper, same_kind, inside, primary_by, read_primary, read_property, read_call, name_by, read_name, read_date, marked, sign_by, read_sign, joined, more, chained, null_by, read_null, compared, test_by, read_test, not_by, read_not, read_level, nested, read_expr}
+use Rattle.pgql_expr.specs.Reading.{unexpected, Outcome, Parser, found, chosen, and_then, ◌>>=◌, ◌>>◌, pure, refuse, by_next, take_token, expect_by, expect, expect_word}
+use Rattle.pgql_expr.specs.Reading.{deeper, same_kind, inside, primary_by, read_primary, read_property, read_call, name_by, read_name, read_date, marked, sign_by}
+use Rattle.pgql_expr.specs.Reading.{read_sign, joined, more, chained, null_by, read_null, compared, test_by, read_test, not_by, read_not, read_level, nested, read_expr}
 use Rattle.pgql_syntax.proofs.Ends.{place_front}
 use Rattle.pgql_lexemes.proofs.SameKind.{same_itself}
 

@@ -1,9 +1,6 @@
 -- What was taken is of the rule, and what a refusal leaves behind can be ended.
 use Rattle.std.proofs.Common.{◌≡◌, ℕ, ◌<◌, Bool, true, false, List, [], ◌∷◌, ◌++◌, Ok, Err, refl, sym, ap, ◌∙◌, subst, append_assoc, arith}
 use Rattle.std.specs.Prelude.{nat_lt}
-use Rattle.std.proofs.Common.{rules}
-use denote.Enum.Bare.{same_true}
-use Rattle.pgql_lexemes.specs.contracts.kind.Kind.{the_type}
 use Rattle.std.proofs.lemmas.Bool.Decides.{nat_tests}
 use Rattle.pgql_lexemes.specs.declared.kind.Kind.{Kind}
 use Rattle.std.specs.Prelude.{map}

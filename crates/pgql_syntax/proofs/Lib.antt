@@ -29,3 +29,4 @@ pub mod ReadBack
 pub mod QueryBack
 pub mod Turn
 pub mod Tokened
+pub mod Choices

@@ -2,12 +2,9 @@
 use Rattle.std.proofs.Common.{◌≡◌, ℕ, zero, suc, ◌≤◌, ◌<◌, Bool, true, false, List, [], ◌∷◌, ◌++◌, length, length-append, Ok, Err, refl, sym, ap, ◌∙◌, subst, append_assoc, arith}
 use Rattle.pgql_lexemes.specs.declared.kind.Kind.{Kind}
 use Rattle.pgql_lexemes.specs.Lexemes.{Lexeme}
-use Rattle.pgql_expr.specs.Reading.{Refusal, unexpected, deep, Outcome, Parser, and_then, ◌>>◌, pure, by_next, take_token, same_kind}
-use Rattle.pgql_lexemes.specs.Reads.{Reads}
-use Rattle.pgql_lexemes.specs.declared.input.Stop.{Stop}
-use Rattle.pgql_lexemes.specs.declared.input.Stop.TheVariants as stop
+use Rattle.pgql_expr.specs.Reading.{Refusal, unexpected, Outcome, Parser, and_then, ◌>>◌, pure, by_next, take_token, same_kind}
 use Rattle.pgql_syntax.specs.Grammar.{Separated, alone, followed}
-use Rattle.pgql_lexemes.specs.Lists.{choose, separated_from, separated, sees, after, Shrinks}
+use Rattle.pgql_lexemes.specs.Lists.{choose, separated_from, separated, Shrinks}
 use Rattle.pgql_syntax.proofs.Steady.{Steady, Steady-then, Steady-pure, Steady-refuse, Steady-take, Steady-by_next}
 use Rattle.pgql_syntax.proofs.Follows.{CanEnd, Says, Follows, ends_with, Follows-pure, Follows-unexpected, Follows-then, Follows-by_next, said-pure, said-after}
 use Rattle.pgql_lexemes.proofs.SameKind.{same_is}

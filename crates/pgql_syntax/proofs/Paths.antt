@@ -8,13 +8,16 @@ use Rattle.pgql_tree.specs.declared.ast.EdgePat.{EdgePat}
 use Rattle.pgql_tree.specs.declared.ast.Path.{Path}
 use Rattle.pgql_syntax.specs.declared.pattern.Spec.{Spec}
 use Rattle.pgql_lexemes.specs.Lexemes.{Lexeme}
-use Rattle.pgql_syntax.specs.Grammar.{IsName, IsLabel, Separated, Perhaps, without, Many, no_more, AreLabels, any_label, labelled, IsSpec, IsEnclosed, vertex_of, IsVertex, edge_of, arrow, IsEdge, IsStep, IsPath}
+use Rattle.pgql_syntax.specs.Grammar.{IsName, IsLabel, Separated, Perhaps, without, Many, no_more, AreLabels, any_label, labelled, IsSpec, IsEnclosed, vertex_of}
+use Rattle.pgql_syntax.specs.Grammar.{IsVertex, edge_of, arrow, IsEdge, IsStep, IsPath}
 use Rattle.pgql_syntax.specs.Grammar as g
 use Rattle.pgql_expr.specs.Reading.{unexpected, Parser, ◌>>=◌, ◌>>◌, pure, refuse, take_token, expect, expect_word, same_kind, placed}
 use Rattle.pgql_lexemes.specs.Lists.{choose, separated, many, perhaps, Shrinks}
-use Rattle.pgql_syntax.specs.Patterns.{read_placed, read_label, read_labels, read_spec, read_enclosed, read_vertex, read_out, minus_by, after_minus, read_in, less_by, after_less, edge_by, read_edge, read_step, begins_edge, read_path}
+use Rattle.pgql_syntax.specs.Patterns.{read_placed, read_label, read_labels, read_spec, read_enclosed, read_vertex, read_out, minus_by, after_minus, read_in, less_by}
+use Rattle.pgql_syntax.specs.Patterns.{after_less, edge_by, read_edge, read_step, begins_edge, read_path}
 use Rattle.pgql_syntax.proofs.Samples.{sample}
-use Rattle.pgql_syntax.proofs.Follows.{CanEnd, Says, Follows, ends_with, Follows-pure, Follows-unexpected, Follows-then, Follows-by_next, Follows-expect, Follows-expect_word, said-pure, said-unexpected, said-after}
+use Rattle.pgql_syntax.proofs.Follows.{CanEnd, Says, Follows, ends_with, Follows-pure, Follows-unexpected, Follows-then, Follows-by_next, Follows-expect}
+use Rattle.pgql_syntax.proofs.Follows.{Follows-expect_word, said-pure, said-unexpected, said-after}
 use Rattle.pgql_lexemes.proofs.SameKind.{same_is}
 use Rattle.pgql_syntax.proofs.Lists.{Follows-separated}
 use Rattle.pgql_syntax.proofs.Many.{Takes, Follows-many}

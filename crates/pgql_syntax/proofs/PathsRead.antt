@@ -8,11 +8,13 @@ use Rattle.pgql_tree.specs.declared.ast.EdgePat.{EdgePat}
 use Rattle.pgql_tree.specs.declared.ast.Path.{Path}
 use Rattle.pgql_syntax.specs.declared.pattern.Spec.{Spec}
 use Rattle.pgql_lexemes.specs.Lexemes.{Lexeme}
-use Rattle.pgql_syntax.specs.Grammar.{IsName, IsLabel, AreLabels, any_label, labelled, IsSpec, IsEnclosed, vertex_of, IsVertex, edge_of, arrow, IsEdge, arrow_out, arrow_in, edge_out, edge_in, IsStep, IsPath}
+use Rattle.pgql_syntax.specs.Grammar.{IsName, IsLabel, AreLabels, any_label, labelled, IsSpec, IsEnclosed, vertex_of, IsVertex, edge_of, arrow, IsEdge, arrow_out}
+use Rattle.pgql_syntax.specs.Grammar.{arrow_in, edge_out, edge_in, IsStep, IsPath}
 use Rattle.pgql_syntax.specs.Grammar as g
 use Rattle.pgql_expr.specs.Reading.{and_then, ◌>>=◌, ◌>>◌, pure, take_token, expect, expect_by, expect_word, same_kind, placed}
 use Rattle.pgql_lexemes.specs.Lists.{choose, separated, many}
-use Rattle.pgql_syntax.specs.Patterns.{read_placed, read_label, read_labels, read_spec, read_enclosed, read_vertex, read_out, minus_by, after_minus, read_in, less_by, after_less, edge_by, read_edge, read_step, begins_edge, read_path}
+use Rattle.pgql_syntax.specs.Patterns.{read_placed, read_label, read_labels, read_spec, read_enclosed, read_vertex, read_out, minus_by, after_minus, read_in, less_by}
+use Rattle.pgql_syntax.specs.Patterns.{after_less, edge_by, read_edge, read_step, begins_edge, read_path}
 use Rattle.pgql_syntax.proofs.Complete.{expect_goes}
 use Rattle.pgql_lexemes.proofs.SameKind.{same_itself}
 use Rattle.pgql_syntax.proofs.Lists.{IsNot, separated_reads}

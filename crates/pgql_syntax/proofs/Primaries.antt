@@ -15,9 +15,12 @@ use Rattle.pgql_lexemes.specs.Lexemes.{Lexeme, value_of, content_of, is_id, is_l
 use Rattle.pgql_syntax.specs.Grammar.{IsExpr}
 use Rattle.pgql_lexemes.specs.Operators.{comparison}
 use Rattle.pgql_syntax.specs.Grammar as g
-use Rattle.pgql_expr.specs.Reading.{unexpected, deep, Parser, found, chosen, ◌>>=◌, ◌>>◌, pure, refuse, by_next, take_token, expect, expect_word, inside, primary_by, read_primary, read_property, read_call, name_by, read_name, read_date, sign_by, read_sign, joined, chained, null_by, read_null, compared, test_by, read_test, not_by, read_not, read_level, nested, read_expr}
+use Rattle.pgql_expr.specs.Reading.{unexpected, deep, Parser, found, chosen, ◌>>=◌, ◌>>◌, pure, refuse, by_next, take_token, expect, expect_word, inside, primary_by}
+use Rattle.pgql_expr.specs.Reading.{read_primary, read_property, read_call, name_by, read_name, read_date, sign_by, read_sign, joined, chained, null_by, read_null}
+use Rattle.pgql_expr.specs.Reading.{compared, test_by, read_test, not_by, read_not, read_level, nested, read_expr}
 use Rattle.pgql_syntax.proofs.Samples.{sample}
-use Rattle.pgql_syntax.proofs.Follows.{CanEnd, Says, Follows, ends_with, Follows-pure, Follows-unexpected, said-pure, said-unexpected, said-after, and_then_says, Follows-then, Follows-by_next, Follows-expect, Follows-expect_word, said-deeper, said-looser, Follows-looser}
+use Rattle.pgql_syntax.proofs.Follows.{CanEnd, Says, Follows, ends_with, Follows-pure, Follows-unexpected, said-pure, said-unexpected, said-after, and_then_says}
+use Rattle.pgql_syntax.proofs.Follows.{Follows-then, Follows-by_next, Follows-expect, Follows-expect_word, said-deeper, said-looser, Follows-looser}
 use Rattle.pgql_syntax.proofs.Ends.{place_front, one, one_expr, found_one, one_is, Low, High, any_level, moved, up_one, compared_is, chained_follows, marked_says}
 
 abbrev name_token : Lexeme

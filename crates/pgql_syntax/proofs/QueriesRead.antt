@@ -13,12 +13,15 @@ use Rattle.pgql_syntax.specs.declared.query.Tail.{Tail}
 use Rattle.pgql_expr.specs.declared.found.Found.{Found}
 use Rattle.pgql_tree.specs.declared.level.Level.TheVariants.{Or}
 use Rattle.pgql_lexemes.specs.Lexemes.{Lexeme, value_of}
-use Rattle.pgql_syntax.specs.Grammar.{IsName, Separated, alone, followed, Optional, absent, present, IsWhole, IsItem, IsKey, IsDirection, no_word, up, down, IsPath, IsDistinct, every, distinct, AreKeys, no_order, ordered, IsLimit, IsSelection, IsPattern, IsTail, IsQuery, at_of}
+use Rattle.pgql_syntax.specs.Grammar.{IsName, Separated, alone, followed, Optional, absent, present, IsWhole, IsItem, IsKey, IsDirection, no_word, up, down, IsPath}
+use Rattle.pgql_syntax.specs.Grammar.{IsDistinct, every, distinct, AreKeys, no_order, ordered, IsLimit, IsSelection, IsPattern, IsTail, IsQuery, at_of}
 use Rattle.pgql_syntax.specs.Grammar as g
-use Rattle.pgql_expr.specs.Reading.{Refusal, unexpected, Outcome, and_then, ◌>>=◌, ◌>>◌, pure, take_token, expect, same_kind, read_expr, nested, read_level, chained, read_not, read_test, read_sign, read_primary}
+use Rattle.pgql_expr.specs.Reading.{Refusal, unexpected, Outcome, and_then, ◌>>=◌, ◌>>◌, pure, take_token, expect, same_kind, read_expr, nested, read_level, chained}
+use Rattle.pgql_expr.specs.Reading.{read_not, read_test, read_sign, read_primary}
 use Rattle.pgql_lexemes.specs.Lists.{choose, separated, optional}
 use Rattle.pgql_syntax.specs.Patterns.{read_placed, begins_edge, read_path}
-use Rattle.pgql_syntax.specs.Queries.{read_whole_expr, read_item, direction_by, read_direction, read_key, read_distinct, read_keys, read_number, read_selection, read_pattern, read_tail, whole_of, read_query, finished, read_whole}
+use Rattle.pgql_syntax.specs.Queries.{read_whole_expr, read_item, direction_by, read_direction, read_key, read_distinct, read_keys, read_number, read_selection}
+use Rattle.pgql_syntax.specs.Queries.{read_pattern, read_tail, whole_of, read_query, finished, read_whole}
 use Rattle.pgql_lexemes.proofs.SameKind.{same_is}
 use Rattle.pgql_syntax.proofs.Complete.{stops, Stops, reads, some_token, expect_goes}
 use Rattle.pgql_lexemes.proofs.SameKind.{same_itself}

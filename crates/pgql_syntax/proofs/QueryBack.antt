@@ -16,18 +16,23 @@ use Rattle.pgql_tree.specs.declared.ast.Key.{Key}
 use Rattle.pgql_tree.specs.declared.ast.Ast.{Ast}
 use Rattle.pgql_tree.specs.declared.level.Level.TheVariants.{Or}
 use Rattle.pgql_tree.specs.Same.{bare_name, bare, bare_item, bare_vertex, bare_edge, bare_pair, bare_path, bare_key, bare_query}
-use Rattle.pgql_print.specs.Printing.{spelled, between, name_or_none, labels_or_none, spec_text, vertex_text, opens, closes, arrow_text, edge_text, step_text, path_text, as_name, item_text, direction, key_text, select_word, condition_text, keys_text, limit_text, query_text}
+use Rattle.pgql_print.specs.Printing.{spelled, between, name_or_none, labels_or_none, spec_text, vertex_text, opens, closes, arrow_text, edge_text, step_text, path_text}
+use Rattle.pgql_print.specs.Printing.{as_name, item_text, direction, key_text, select_word, condition_text, keys_text, limit_text, query_text}
 use Rattle.pgql_lexemes.specs.declared.kind.Kind.{Kind}
 use Rattle.pgql_lexemes.specs.declared.kind.Kind.TheVariants as k
 use Rattle.pgql_syntax.specs.declared.pattern.Spec.{Spec}
 use Rattle.pgql_syntax.specs.declared.query.Tail.{Tail}
 use Rattle.pgql_lexemes.specs.Lexemes.{Lexeme, is_word, value_of}
 use Rattle.pgql_lexemes.specs.Seen.{word_kind, seen}
-use Rattle.pgql_syntax.specs.Grammar.{Separated, alone, followed, Optional, absent, present, Perhaps, without, with_part, Many, no_more, one_more, IsName, IsLabel, AreLabels, any_label, labelled, IsSpec, spec, IsEnclosed, enclosed, vertex_of, IsVertex, vertex, edge_of, arrow, IsEdge, arrow_out, arrow_in, edge_out, edge_in, IsStep, step, IsPath, path, at_of, IsWhole, IsItem, item, IsDirection, no_word, down, IsKey, key, every, distinct, AreKeys, no_order, ordered, IsLimit, IsSelection, selection, IsPattern, pattern, IsTail, tail, IsQuery, query}
+use Rattle.pgql_syntax.specs.Grammar.{Separated, alone, followed, Optional, absent, present, Perhaps, without, with_part, Many, no_more, one_more, IsName, IsLabel}
+use Rattle.pgql_syntax.specs.Grammar.{AreLabels, any_label, labelled, IsSpec, spec, IsEnclosed, enclosed, vertex_of, IsVertex, vertex, edge_of, arrow, IsEdge, arrow_out}
+use Rattle.pgql_syntax.specs.Grammar.{arrow_in, edge_out, edge_in, IsStep, step, IsPath, path, at_of, IsWhole, IsItem, item, IsDirection, no_word, down, IsKey, key}
+use Rattle.pgql_syntax.specs.Grammar.{every, distinct, AreKeys, no_order, ordered, IsLimit, IsSelection, selection, IsPattern, pattern, IsTail, tail, IsQuery, query}
 use Rattle.pgql_syntax.specs.RoundTrip.{IsReadBack}
 use Rattle.pgql_syntax.proofs.Spots.{front_all, back_all}
 use Rattle.pgql_syntax.proofs.Lexing.{Mark, mark_of, parts_first, any_text, IsLexed, no_text, one_space, before_any, lexed_before, lexed_parted, still_parts, whole_lexed}
-use Rattle.pgql_syntax.proofs.Standing.{decimal_value, decimal_lexed, open_lexed, close_lexed, open_bracket_lexed, close_bracket_lexed, comma_lexed, colon_lexed, bar_lexed, minus_lexed, greater_lexed, less_lexed}
+use Rattle.pgql_syntax.proofs.Standing.{decimal_value, decimal_lexed, open_lexed, close_lexed, open_bracket_lexed, close_bracket_lexed, comma_lexed, colon_lexed}
+use Rattle.pgql_syntax.proofs.Standing.{bar_lexed, minus_lexed, greater_lexed, less_lexed}
 use Rattle.pgql_syntax.proofs.Source.{IsSource, all_source}
 use Rattle.pgql_syntax.proofs.ReadBack.{ReadsBack, back_as, split, first_mark, no_mark, one_mark, as_tokens, one_back, spaced, space_after, keyword, source_word, source_name, expr_back}
 

@@ -18,7 +18,9 @@ use Rattle.pgql_tree.specs.Levels.{tighter}
 use Rattle.pgql_tree.specs.Same.{bare_name, bare}
 use Rattle.pgql_tree.proofs.Bare.{bare-Int, bare-Text, bare-Date, bare-Bool, bare-Name, bare-Property, bare-Id, bare-Label, bare-Not, bare-Neg, bare-IsNull, bare-Binary}
 use Rattle.pgql_print.specs.Printing.{rank, level_of, left_of, sign_of, is_looser, null_test, spelled, own_level}
-use Rattle.pgql_print.proofs.Spelling.{own-Int, own-Text, own-Date, own-Bool, own-Name, own-Property, own-Id, own-Label, own-Not, own-Neg, own-IsNull, own-Binary, alone-Int, alone-Text, alone-Date, alone-Bool, alone-Name, alone-Property, alone-Id, alone-Label, alone-Not, alone-Neg, alone-IsNull, alone-Binary, with_parentheses, without_parentheses}
+use Rattle.pgql_print.proofs.Spelling.{own-Int, own-Text, own-Date, own-Bool, own-Name, own-Property, own-Id, own-Label, own-Not, own-Neg, own-IsNull, own-Binary}
+use Rattle.pgql_print.proofs.Spelling.{alone-Int, alone-Text, alone-Date, alone-Bool, alone-Name, alone-Property, alone-Id, alone-Label, alone-Not, alone-Neg}
+use Rattle.pgql_print.proofs.Spelling.{alone-IsNull, alone-Binary, with_parentheses, without_parentheses}
 use Rattle.pgql_lexemes.specs.declared.kind.Kind.{Kind}
 use Rattle.pgql_lexemes.specs.declared.kind.Kind.TheVariants as k
 use Rattle.pgql_lexemes.specs.Lexemes.{Lexeme, is_word, value_of, undoubled, content_of, place}
@@ -29,7 +31,8 @@ use Rattle.pgql_syntax.specs.Grammar as g
 use Rattle.pgql_syntax.proofs.Ends.{higher}
 use Rattle.pgql_syntax.proofs.Spots.{front_all, back_all}
 use Rattle.pgql_syntax.proofs.Lexing.{Mark, mark_of, parts_first, any_text, IsLexed, one_space, lexed_both, before_any, lexed_before, lexed_parted, lexed_as}
-use Rattle.pgql_syntax.proofs.Standing.{IsWord, word_lexed, decimal_value, decimal_lexed, open_lexed, close_lexed, dot_lexed, plus_lexed, minus_lexed, star_lexed, percent_lexed, equal_lexed, unequal_lexed, less_equal_lexed, greater_equal_lexed, less_lexed, greater_lexed, slash_lexed}
+use Rattle.pgql_syntax.proofs.Standing.{IsWord, word_lexed, decimal_value, decimal_lexed, open_lexed, close_lexed, dot_lexed, plus_lexed, minus_lexed, star_lexed}
+use Rattle.pgql_syntax.proofs.Standing.{percent_lexed, equal_lexed, unequal_lexed, less_equal_lexed, greater_equal_lexed, less_lexed, greater_lexed, slash_lexed}
 use Rattle.pgql_syntax.proofs.Source.{IsSource}
 
 -- The text is lexed as tokens, and tokens like these are a part that is the same.

@@ -4,8 +4,10 @@ use Rattle.pgql_lexemes.specs.declared.kind.Kind.{Kind}
 use Rattle.pgql_lexemes.specs.declared.kind.Kind.TheVariants as k
 use Rattle.pgql_tree.specs.declared.level.Level.TheVariants.{Or}
 use Rattle.pgql_expr.specs.Reading.{Refusal, unexpected, deep}
-use Rattle.pgql_syntax.specs.Patterns.{read_placed, read_label, read_labels, read_spec, read_enclosed, read_vertex, read_out, minus_by, read_in, less_by, edge_by, read_edge, read_step, begins_edge, read_path}
-use Rattle.pgql_syntax.specs.Queries.{read_whole_expr, read_item, direction_by, read_direction, read_key, read_distinct, read_keys, read_number, read_selection, read_pattern, read_tail, read_query, read_whole}
+use Rattle.pgql_syntax.specs.Patterns.{read_placed, read_label, read_labels, read_spec, read_enclosed, read_vertex, read_out, minus_by, read_in, less_by, edge_by}
+use Rattle.pgql_syntax.specs.Patterns.{read_edge, read_step, begins_edge, read_path}
+use Rattle.pgql_syntax.specs.Queries.{read_whole_expr, read_item, direction_by, read_direction, read_key, read_distinct, read_keys, read_number, read_selection}
+use Rattle.pgql_syntax.specs.Queries.{read_pattern, read_tail, read_query, read_whole}
 use Rattle.pgql_syntax.proofs.Steady.{Steady, Steady-then, Steady-pure, Steady-refuse, Steady-take, Steady-by_next}
 use Rattle.pgql_syntax.proofs.Stable.{Steady-expect, Steady-expect_word, expr_steady}
 use Rattle.pgql_syntax.proofs.Lists.{Steady-separated}

@@ -1,5 +1,6 @@
 -- What the words and literals of a text are, so that they can be written again.
-use Rattle.std.proofs.Common.{◌≡◌, ℕ, suc, ◌+◌, ◌-◌, ◌<◌, ◌^◌, Bool, true, false, List, [], ◌∷◌, ◌++◌, map, length, length-append, take, drop, Option, Some, None, Ok, refl, sym, ap, ◌∙◌, subst, append_assoc, arith}
+use Rattle.std.proofs.Common.{◌≡◌, ℕ, suc, ◌+◌, ◌-◌, ◌<◌, ◌^◌, Bool, true, false, List, [], ◌∷◌, ◌++◌, map, length, length-append, take, drop, Option, Some, None, Ok}
+use Rattle.std.proofs.Common.{refl, sym, ap, ◌∙◌, subst, append_assoc, arith}
 use Rattle.std.proofs.lemmas.Bool.Decides.{nat_tests}
 use Rattle.std.proofs.Math.Seq.{take-append_seam}
 use Rattle.std.specs.Prelude.{not, nat_lt, ◌&&◌, if◌then◌else◌, slice_index, flat_map}
@@ -11,7 +12,8 @@ use Rattle.pgql_lexer.specs.declared.token.TokenKind.{TokenKind}
 use Rattle.pgql_lexer.specs.declared.token.TokenKind.TheVariants as token
 use Rattle.pgql_lexer.specs.declared.fronts.Front.{Front}
 use Rattle.pgql_lexer.specs.declared.fronts.Front.TheVariants as front
-use Rattle.pgql_lexer.specs.Fronts.{is_space, begins_word, is_word_byte, is_quote, opens_comment, is_symbol, is_pair, value_after, most_number, number_of, literal_end, literal_to, comment_to, front_of}
+use Rattle.pgql_lexer.specs.Fronts.{is_space, begins_word, is_word_byte, is_quote, opens_comment, is_symbol, is_pair, value_after, most_number, number_of, literal_end}
+use Rattle.pgql_lexer.specs.Fronts.{literal_to, comment_to, front_of}
 use Rattle.pgql_lexer.specs.Tokens.{tokens}
 use Rattle.pgql_print.specs.Printing.{doubled, quoted}
 use Rattle.pgql_lexemes.specs.declared.kind.Kind.TheVariants as k

@@ -20,7 +20,8 @@ use Rattle.pgql_tree.specs.declared.level.Level.{Level}
 use Rattle.pgql_lexer.specs.declared.token.Token.{Token}
 use Rattle.pgql_lexemes.specs.Lexemes.{Lexeme, place}
 use Rattle.pgql_lexemes.specs.Seen.{seen, IsTokenOf}
-use Rattle.pgql_syntax.specs.Grammar.{IsName, IsExpr, IsWhole, IsItem, IsKey, Separated, alone, followed, Optional, absent, present, Perhaps, without, with_part, Many, no_more, one_more, IsSpec, IsEnclosed, IsVertex, IsEdge, IsStep, IsPath, AreKeys, no_order, ordered, IsPattern, IsQuery, at_of}
+use Rattle.pgql_syntax.specs.Grammar.{IsName, IsExpr, IsWhole, IsItem, IsKey, Separated, alone, followed, Optional, absent, present, Perhaps, without, with_part, Many}
+use Rattle.pgql_syntax.specs.Grammar.{no_more, one_more, IsSpec, IsEnclosed, IsVertex, IsEdge, IsStep, IsPath, AreKeys, no_order, ordered, IsPattern, IsQuery, at_of}
 use Rattle.pgql_syntax.specs.Grammar as g
 use Rattle.pgql_syntax.specs.Places.{IsTree}
 use Rattle.pgql_tree.specs.AllPlaces.{places_of, places, name_places, item_places, vertex_places, edge_places, step_places, path_places, condition_places, key_places, query_places, IsWithin}

@@ -14,7 +14,9 @@ use Rattle.pgql_tree.specs.declared.level.Level.TheVariants.{Or, And, Not, Test,
 use Rattle.pgql_lexemes.specs.Lexemes.{Lexeme, is_word, content_of, is_id, is_label}
 use Rattle.pgql_lexemes.specs.Operators.{operator}
 use Rattle.pgql_tree.specs.Levels.{tighter}
-use Rattle.pgql_expr.specs.Reading.{Refusal, unexpected, deep, Parser, found, chosen, ◌>>◌, expect_by, expect, expect_word, deeper_by, deeper, same_kind, inside, primary_by, read_primary, read_property, read_call, name_by, read_name, read_date, marked, sign_by, read_sign, joined, goes_by, more, chained, null_by, read_null, compared, test_by, read_test, not_by, read_not, read_level, nested, read_expr}
+use Rattle.pgql_expr.specs.Reading.{Refusal, unexpected, deep, Parser, found, chosen, ◌>>◌, expect_by, expect, expect_word, deeper_by, deeper, same_kind, inside}
+use Rattle.pgql_expr.specs.Reading.{primary_by, read_primary, read_property, read_call, name_by, read_name, read_date, marked, sign_by, read_sign, joined, goes_by, more}
+use Rattle.pgql_expr.specs.Reading.{chained, null_by, read_null, compared, test_by, read_test, not_by, read_not, read_level, nested, read_expr}
 use Rattle.pgql_syntax.proofs.Steady.{Steady, Steady-then, Steady-pure, Steady-refuse, Steady-refuse_only, Steady-here, Steady-take, Steady-by_next}
 
 lt_more : (h m m' : ℕ) → m ≤ m' → nat_lt h m ≡ true → nat_lt h m' ≡ true

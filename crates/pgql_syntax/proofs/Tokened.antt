@@ -1,5 +1,5 @@
 -- The answer to a text, by whether it has tokens.
-use Rattle.std.proofs.Common.{◌≡◌, ◌≢◌, ℕ, ◌+◌, List, length, Result, Ok, Err, sym, ap, ◌∙◌, subst}
+use Rattle.std.proofs.Common.{◌≡◌, ℕ, ◌+◌, List, length, Result, Ok, Err, sym, ap, ◌∙◌, subst}
 use Rattle.pgql_lexer.specs.declared.token.Token.{Token}
 use Rattle.pgql_lexer.specs.declared.token.LexFault.{LexFault}
 use Rattle.pgql_lexer.specs.Tokens.{tokens}

@@ -9,7 +9,8 @@ use Rattle.pgql_tree.specs.declared.ast.Path.{Path}
 use Rattle.pgql_tree.specs.declared.ast.Ast.{Ast}
 use Rattle.pgql_syntax.specs.declared.query.Tail.{Tail}
 use Rattle.pgql_lexemes.specs.Lexemes.{Lexeme, value_of}
-use Rattle.pgql_syntax.specs.Grammar.{Separated, alone, Optional, absent, IsWhole, IsItem, IsKey, IsPath, IsDistinct, every, distinct, AreKeys, no_order, ordered, IsLimit, IsSelection, IsPattern, IsTail, IsQuery}
+use Rattle.pgql_syntax.specs.Grammar.{Separated, alone, Optional, absent, IsWhole, IsItem, IsKey, IsPath, IsDistinct, every, distinct, AreKeys, no_order, ordered}
+use Rattle.pgql_syntax.specs.Grammar.{IsLimit, IsSelection, IsPattern, IsTail, IsQuery}
 use Rattle.pgql_syntax.specs.Grammar as g
 use Rattle.pgql_expr.specs.Reading.{◌>>=◌, ◌>>◌, pure, take_token, expect, same_kind}
 use Rattle.pgql_lexemes.specs.Lists.{choose, separated, optional}
@@ -23,7 +24,8 @@ use Rattle.pgql_syntax.proofs.Lists.{Follows-separated}
 use Rattle.pgql_syntax.proofs.Options.{Follows-optional}
 use Rattle.pgql_syntax.proofs.Parts.{Follows-behind}
 use Rattle.pgql_syntax.proofs.Paths.{path_of, empty_path, path_follows}
-use Rattle.pgql_syntax.proofs.Items.{Any, lift_separated, gather_separated, lift_optional, gather_optional, lift_whole, lift_item, lift_key, whole_follows, item_of, item_follows, key_of, key_follows, one_item, one_key}
+use Rattle.pgql_syntax.proofs.Items.{Any, lift_separated, gather_separated, lift_optional, gather_optional, lift_whole, lift_item, lift_key, whole_follows, item_of}
+use Rattle.pgql_syntax.proofs.Items.{item_follows, key_of, key_follows, one_item, one_key}
 
 -- ---- a greater height will do
 

@@ -2,6 +2,7 @@
 use Rattle.std.specs.Prelude.{ℕ, Bool, true, false, List, []}
 use Rattle.pgql_lexemes.specs.declared.kind.Kind.{Kind}
 use Rattle.pgql_lexemes.specs.declared.kind.Kind.TheVariants as k
+use Rattle.pgql_lexemes.specs.Lexemes.{Lexeme}
 use Rattle.pgql_tree.specs.declared.ast.Placed.{Placed}
 use Rattle.pgql_tree.specs.declared.ast.VertexPat.{VertexPat}
 use Rattle.pgql_tree.specs.declared.ast.EdgePat.{EdgePat}
@@ -35,6 +36,10 @@ read_enclosed opens closes = do
 
 unfoldable pub read_vertex : Parser VertexPat
 read_vertex = read_enclosed k.Open k.Close >>= λ s. pure (vertex_of s.0 s.1)
+
+-- `->` behind a bracket
+abbrev pub read_arrow_end : Parser Lexeme
+read_arrow_end = expect k.Minus >> expect k.Greater
 
 -- `[..]->`, behind a minus
 unfoldable pub read_out : ℕ → Parser EdgePat

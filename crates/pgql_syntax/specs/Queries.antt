@@ -1,5 +1,5 @@
 -- Reading queries.
-use Rattle.std.specs.Prelude.{ℕ, Bool, true, false, List, []}
+use Rattle.std.specs.Prelude.{ℕ, Bool, true, false, List, [], Option}
 use Rattle.pgql_lexemes.specs.declared.kind.Kind.{Kind}
 use Rattle.pgql_lexemes.specs.declared.kind.Kind.TheVariants as k
 use Rattle.pgql_tree.specs.declared.ast.AstExpr.{AstExpr}
@@ -7,6 +7,7 @@ use Rattle.pgql_tree.specs.declared.ast.Item.{Item}
 use Rattle.pgql_tree.specs.declared.ast.Path.{Path}
 use Rattle.pgql_tree.specs.declared.ast.Key.{Key}
 use Rattle.pgql_tree.specs.declared.ast.Ast.{Ast}
+use Rattle.pgql_syntax.specs.declared.query.Head.{Head}
 use Rattle.pgql_syntax.specs.declared.query.Tail.{Tail}
 use Rattle.pgql_tree.specs.declared.level.Level.TheVariants.{Or}
 use Rattle.pgql_lexemes.specs.Lexemes.{value_of}
@@ -57,6 +58,13 @@ read_selection most = do
 unfoldable pub read_pattern : Parser (List Path)
 read_pattern = expect k.Match >> separated read_path k.Comma
 
+-- the order keys and the limit
+unfoldable pub read_order : ℕ → Parser (List Key × Option ℕ)
+read_order most = do
+  keys ← read_keys most
+  limit ← optional read_number k.Limit
+  pure (keys, limit)
+
 unfoldable pub read_tail : ℕ → Parser Tail
 read_tail most = do
   condition ← optional (read_whole_expr most) k.Where
@@ -66,6 +74,23 @@ read_tail most = do
 
 abbrev pub whole_of : Bool × List Item → List Path → Tail → Ast
 whole_of selected paths t = record { distinct = selected.0; items = selected.1; paths = paths; condition = t.condition; keys = t.keys; limit = t.limit }
+
+-- what stands before the condition
+unfoldable pub read_head : ℕ → Parser Head
+read_head most = do
+  selected ← read_selection most
+  paths ← read_pattern
+  pure (record { distinct = selected.0; items = selected.1; paths = paths })
+
+abbrev pub query_with : Head → Tail → Ast
+query_with head tail = record {
+  distinct = head.distinct;
+  items = head.items;
+  paths = head.paths;
+  condition = tail.condition;
+  keys = tail.keys;
+  limit = tail.limit;
+}
 
 unfoldable pub read_query : ℕ → Parser Ast
 read_query most = do

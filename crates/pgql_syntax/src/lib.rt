@@ -9,7 +9,7 @@
 //! so, and else as unexpected. The contract of `parse` says this in both directions: an answer has its cause,
 //! and a cause its answer, unless memory runs out.
 //!
-//! Inside, reading is recursive descent with a budget of height (`specs/Reading.antt`, `Patterns.antt`,
+//! Inside, reading is recursive descent with a budget of height (`pgql_expr/specs/Reading.antt`, `Patterns.antt`,
 //! `Queries.antt` say it over lists of tokens, and each function of the code ensures its part).
 //!
 //! The types of trees come from `pgql_tree`, and what writes them back from `pgql_print`; both are named here

@@ -5,11 +5,12 @@ ghost use Rattle.pgql_syntax.specs.Grammar as grammar;
 ghost use Rattle.pgql_lexemes.specs.Lists.{perhaps, separated, many, begins_with};
 ghost use Rattle.pgql_syntax.specs.Patterns as spec;
 ghost use Rattle.pgql_lexemes.specs.Reads.{Reads};
+ghost use Rattle.pgql_lexemes.specs.Told.{ReadsToken};
 ghost use Rattle.pgql_lexemes.specs.declared.kind.Kind.TheVariants as kind;
 
 use crate::part::{Part, list};
 use adfs_base::Name;
-use pgql_lexemes::{Input, Kind, Stop};
+use pgql_lexemes::{Input, Kind, Lexeme, Stop};
 use pgql_tree::{EdgePat, Path, Placed, VertexPat};
 use sqlite_items::Items;
 use std::alloc::Global;
@@ -42,12 +43,11 @@ impl Part for Name {
 }
 
 /// `[":" Name {"|" Name}]`
-#[tactic(auto, using(crate::proofs::Paths::label_shrinks), unfolding(crate::specs::Patterns::read_labels))]
+#[tactic(auto, using(crate::proofs::Paths::label_shrinks, crate::proofs::Choices::labels_is))]
 fn labels(alloc: Global, input: &mut Input<'_>) -> Result<Items<Name>, Stop>
     ensures { Reads (spec.read_labels input.old) result input.new }
 {
-    if input.sees(Kind::Colon) {
-        input.take()?;
+    if input.eat(Kind::Colon) {
         list(alloc, input, Kind::Bar)
     } else {
         Ok(Items::new(alloc))
@@ -127,14 +127,21 @@ fn arrow(alloc: Global, out: bool, at: u32) -> EdgePat
     }
 }
 
+/// `"-" ">"`
+fn arrow_end<'a>(input: &mut Input<'a>) -> Result<Lexeme<'a>, Stop>
+    ensures { ReadsToken (spec.read_arrow_end input.old) result input.new }
+{
+    input.expect(Kind::Minus)?;
+    input.expect(Kind::Greater)
+}
+
 /// `"[" Spec "]" "-" ">"`
-#[tactic(auto, unfolding(crate::specs::Patterns::read_out))]
+#[tactic(auto, using(crate::proofs::Choices::out_is))]
 fn edge_out(alloc: Global, input: &mut Input<'_>, at: u32) -> Result<EdgePat, Stop>
     ensures { Reads (spec.read_out at input.old) result input.new }
 {
     let (inside, _) = enclosed(alloc, input, Kind::OpenBracket, Kind::CloseBracket)?;
-    input.expect(Kind::Minus)?;
-    input.expect(Kind::Greater)?;
+    arrow_end(input)?;
     Ok(edge_of(true, inside, at))
 }
 

@@ -1,23 +1,31 @@
 //! Whole queries.
 
-ghost use Rattle.std.specs.Prelude.{◌≡◌};
+ghost use Rattle.std.specs.Prelude.{◌≡◌, Ok};
+ghost use Rattle.adfs_base.specs.declared.limits.TheConstants.{EXPRESSION_HEIGHT};
 ghost use Rattle.pgql_syntax.specs.Grammar.{at_of};
 ghost use Rattle.pgql_lexemes.specs.Lists.{optional, separated};
 ghost use Rattle.pgql_syntax.specs.Patterns.{read_placed, read_path};
 ghost use Rattle.pgql_syntax.specs.Queries as spec;
+ghost use Rattle.pgql_syntax.specs.Queries.{query_with};
 ghost use Rattle.pgql_lexemes.specs.Reads.{Reads};
 ghost use Rattle.pgql_lexemes.specs.declared.kind.Kind.TheVariants as kind;
 
 use crate::part::{Part, list};
 use crate::pattern::name;
+use adfs_base::EXPRESSION_HEIGHT;
 use pgql_expr::nested;
 use pgql_lexemes::{Input, Kind, Stop};
 use pgql_tree::{Ast, AstExpr, Item, Key, Level, Path, Placed};
 use sqlite_items::Items;
 use std::alloc::Global;
 
-/// The greatest height of an expression.
-const MOST_HEIGHT: u32 = 64;
+/// What stands before the condition of a query.
+#[derive(Drop)]
+pub struct Head {
+    pub distinct: bool,
+    pub items: Items<Item>,
+    pub paths: Items<Path>,
+}
 
 /// What stands behind the paths of a query.
 #[derive(Drop)]
@@ -30,9 +38,9 @@ pub struct Tail {
 /// `Expr`
 #[tactic(auto, unfolding(crate::specs::Queries::read_whole_expr))]
 fn expr(alloc: Global, input: &mut Input<'_>) -> Result<AstExpr, Stop>
-    ensures { Reads (spec.read_whole_expr 64 input.old) result input.new }
+    ensures { Reads (spec.read_whole_expr EXPRESSION_HEIGHT input.old) result input.new }
 {
-    let x = nested(alloc, input, MOST_HEIGHT + 1, Level::Or)?;
+    let x = nested(alloc, input, EXPRESSION_HEIGHT + 1, Level::Or)?;
     Ok(x.expr)
 }
 
@@ -57,12 +65,11 @@ fn at_of(x: &AstExpr) -> u32
 }
 
 /// `[AS Name]`
-#[tactic(auto, unfolding(pgql_lexemes::specs::Lists::optional))]
+#[tactic(auto, using(crate::proofs::Choices::optional_is))]
 fn as_name(alloc: Global, input: &mut Input<'_>) -> Result<Option<Placed>, Stop>
     ensures { Reads (optional read_placed kind.As input.old) result input.new }
 {
-    if input.sees(Kind::As) {
-        input.take()?;
+    if input.eat(Kind::As) {
         Ok(Some(name(alloc, input)?))
     } else {
         Ok(None)
@@ -71,7 +78,7 @@ fn as_name(alloc: Global, input: &mut Input<'_>) -> Result<Option<Placed>, Stop>
 
 /// `Expr [AS Name]`
 impl Part for Item {
-    ghost reading = { spec.read_item 64 };
+    ghost reading = { spec.read_item EXPRESSION_HEIGHT };
 
     #[tactic(auto, unfolding(crate::specs::Queries::read_item))]
     fn read(alloc: Global, input: &mut Input<'_>) -> Result<Item, Stop> {
@@ -83,46 +90,36 @@ impl Part for Item {
 }
 
 /// `[ASC | DESC]`, and whether it is DESC.
-#[tactic(auto, unfolding(crate::specs::Queries::read_direction))]
-fn direction(input: &mut Input<'_>) -> Result<bool, Stop>
-    ensures { Reads (spec.read_direction input.old) result input.new }
+#[tactic(auto, using(crate::proofs::Choices::desc_read, crate::proofs::Choices::other_read, crate::proofs::Turn::after_none))]
+fn direction(input: &mut Input<'_>) -> bool
+    ensures { spec.read_direction input.old ≡ Ok (result, input.new) }
 {
-    let Some(t) = input.first() else {
-        return Ok(false);
-    };
-    match t.kind {
-        Kind::Asc => {
-            input.take()?;
-            Ok(false)
-        }
-        Kind::Desc => {
-            input.take()?;
-            Ok(true)
-        }
-        _ => Ok(false),
+    if input.eat(Kind::Desc) {
+        return true;
     }
+    input.eat(Kind::Asc);
+    false
 }
 
 /// `Expr [ASC | DESC]`
 impl Part for Key {
-    ghost reading = { spec.read_key 64 };
+    ghost reading = { spec.read_key EXPRESSION_HEIGHT };
 
     #[tactic(auto, unfolding(crate::specs::Queries::read_key))]
     fn read(alloc: Global, input: &mut Input<'_>) -> Result<Key, Stop> {
         let expr = expr(alloc, input)?;
-        let down = direction(input)?;
+        let down = direction(input);
         let at = at_of(&expr);
         Ok(Key { expr, down, at })
     }
 }
 
 /// `[ORDER BY Key {"," Key}]`
-#[tactic(auto, unfolding(crate::specs::Queries::read_keys))]
+#[tactic(auto, using(crate::proofs::Choices::keys_is))]
 fn keys(alloc: Global, input: &mut Input<'_>) -> Result<Items<Key>, Stop>
-    ensures { Reads (spec.read_keys 64 input.old) result input.new }
+    ensures { Reads (spec.read_keys EXPRESSION_HEIGHT input.old) result input.new }
 {
-    if input.sees(Kind::Order) {
-        input.take()?;
+    if input.eat(Kind::Order) {
         input.expect(Kind::By)?;
         list(alloc, input, Kind::Comma)
     } else {
@@ -130,26 +127,12 @@ fn keys(alloc: Global, input: &mut Input<'_>) -> Result<Items<Key>, Stop>
     }
 }
 
-/// `[DISTINCT]`
-#[tactic(auto, unfolding(crate::specs::Queries::read_distinct))]
-fn distinct(input: &mut Input<'_>) -> Result<bool, Stop>
-    ensures { Reads (spec.read_distinct input.old) result input.new }
-{
-    if input.sees(Kind::Distinct) {
-        input.take()?;
-        Ok(true)
-    } else {
-        Ok(false)
-    }
-}
-
 /// `[WHERE Expr]`
-#[tactic(auto, unfolding(pgql_lexemes::specs::Lists::optional))]
+#[tactic(auto, using(crate::proofs::Choices::optional_is))]
 fn condition(alloc: Global, input: &mut Input<'_>) -> Result<Option<AstExpr>, Stop>
-    ensures { Reads (optional (spec.read_whole_expr 64) kind.Where input.old) result input.new }
+    ensures { Reads (optional (spec.read_whole_expr EXPRESSION_HEIGHT) kind.Where input.old) result input.new }
 {
-    if input.sees(Kind::Where) {
-        input.take()?;
+    if input.eat(Kind::Where) {
         Ok(Some(expr(alloc, input)?))
     } else {
         Ok(None)
@@ -166,12 +149,11 @@ fn number(input: &mut Input<'_>) -> Result<u64, Stop>
 }
 
 /// `[LIMIT Number]`
-#[tactic(auto, unfolding(pgql_lexemes::specs::Lists::optional))]
+#[tactic(auto, using(crate::proofs::Choices::optional_is))]
 fn limit(input: &mut Input<'_>) -> Result<Option<u64>, Stop>
     ensures { Reads (optional spec.read_number kind.Limit input.old) result input.new }
 {
-    if input.sees(Kind::Limit) {
-        input.take()?;
+    if input.eat(Kind::Limit) {
         Ok(Some(number(input)?))
     } else {
         Ok(None)
@@ -179,12 +161,12 @@ fn limit(input: &mut Input<'_>) -> Result<Option<u64>, Stop>
 }
 
 /// `SELECT [DISTINCT] Item {"," Item}`
-#[tactic(auto, unfolding(crate::specs::Queries::read_selection))]
+#[tactic(auto, using(crate::proofs::Choices::distinct_is), unfolding(crate::specs::Queries::read_selection))]
 fn selection(alloc: Global, input: &mut Input<'_>) -> Result<(bool, Items<Item>), Stop>
-    ensures { Reads (spec.read_selection 64 input.old) result input.new }
+    ensures { Reads (spec.read_selection EXPRESSION_HEIGHT input.old) result input.new }
 {
     input.expect(Kind::Select)?;
-    let only = distinct(input)?;
+    let only = input.eat(Kind::Distinct);
     let items = list(alloc, input, Kind::Comma)?;
     Ok((only, items))
 }
@@ -198,14 +180,23 @@ fn pattern(alloc: Global, input: &mut Input<'_>) -> Result<Items<Path>, Stop>
     list(alloc, input, Kind::Comma)
 }
 
-/// `[WHERE Expr] [ORDER BY Key {"," Key}] [LIMIT Number]`
-#[tactic(auto, unfolding(crate::specs::Queries::read_tail))]
-fn clauses(alloc: Global, input: &mut Input<'_>) -> Result<Tail, Stop>
-    ensures { Reads (spec.read_tail 64 input.old) result input.new }
+/// `[ORDER BY Key {"," Key}] [LIMIT Number]`
+#[tactic(auto, unfolding(crate::specs::Queries::read_order))]
+fn order(alloc: Global, input: &mut Input<'_>) -> Result<(Items<Key>, Option<u64>), Stop>
+    ensures { Reads (spec.read_order EXPRESSION_HEIGHT input.old) result input.new }
 {
-    let condition = condition(alloc, input)?;
     let keys = keys(alloc, input)?;
     let limit = limit(input)?;
+    Ok((keys, limit))
+}
+
+/// `[WHERE Expr] [ORDER BY Key {"," Key}] [LIMIT Number]`
+#[tactic(auto, using(crate::proofs::Choices::tail_is))]
+fn clauses(alloc: Global, input: &mut Input<'_>) -> Result<Tail, Stop>
+    ensures { Reads (spec.read_tail EXPRESSION_HEIGHT input.old) result input.new }
+{
+    let condition = condition(alloc, input)?;
+    let (keys, limit) = order(alloc, input)?;
     Ok(Tail {
         condition,
         keys,
@@ -213,22 +204,42 @@ fn clauses(alloc: Global, input: &mut Input<'_>) -> Result<Tail, Stop>
     })
 }
 
-/// A query.
-#[tactic(auto, unfolding(crate::specs::Queries::read_query))]
-fn query(alloc: Global, input: &mut Input<'_>) -> Result<Ast, Stop>
-    ensures { Reads (spec.read_query 64 input.old) result input.new }
+/// `SELECT [DISTINCT] Item {"," Item} MATCH Path {"," Path}`
+#[tactic(auto, unfolding(crate::specs::Queries::read_head))]
+fn front(alloc: Global, input: &mut Input<'_>) -> Result<Head, Stop>
+    ensures { Reads (spec.read_head EXPRESSION_HEIGHT input.old) result input.new }
 {
     let (distinct, items) = selection(alloc, input)?;
     let paths = pattern(alloc, input)?;
-    let tail = clauses(alloc, input)?;
-    Ok(Ast {
+    Ok(Head {
         distinct,
         items,
         paths,
+    })
+}
+
+/// The query of the two.
+fn query_with(head: Head, tail: Tail) -> Ast
+    ensures { result ≡ query_with head tail }
+{
+    Ast {
+        distinct: head.distinct,
+        items: head.items,
+        paths: head.paths,
         condition: tail.condition,
         keys: tail.keys,
         limit: tail.limit,
-    })
+    }
+}
+
+/// A query.
+#[tactic(auto, using(crate::proofs::Choices::query_is))]
+fn query(alloc: Global, input: &mut Input<'_>) -> Result<Ast, Stop>
+    ensures { Reads (spec.read_query EXPRESSION_HEIGHT input.old) result input.new }
+{
+    let head = front(alloc, input)?;
+    let tail = clauses(alloc, input)?;
+    Ok(query_with(head, tail))
 }
 
 /// The end.
@@ -244,7 +255,7 @@ fn finished(input: &Input<'_>) -> Result<(), Stop>
 /// A query, and nothing after it.
 #[tactic(auto, unfolding(crate::specs::Queries::read_whole))]
 pub fn whole(alloc: Global, input: &mut Input<'_>) -> Result<Ast, Stop>
-    ensures { Reads (spec.read_whole 64 input.old) result input.new }
+    ensures { Reads (spec.read_whole EXPRESSION_HEIGHT input.old) result input.new }
 {
     let query = query(alloc, input)?;
     finished(input)?;

@@ -2,6 +2,7 @@
 
 ghost use Rattle.std.specs.Prelude.{◌≡◌, ◌≢◌, ◌<◌, ◌≤◌, ◌+◌, ◌^◌, length, IfOk, IfErr, IsOk, MatchResult};
 ghost use Rattle.std.specs.List.{AllByRecursion};
+ghost use Rattle.adfs_base.specs.declared.limits.TheConstants.{EXPRESSION_HEIGHT};
 ghost use Rattle.pgql_lexer.specs.Tokens.{tokens};
 ghost use Rattle.pgql_tree.specs.declared.ast.Ast.{Ast};
 ghost use Rattle.pgql_syntax.specs.declared.tree.SyntaxFault.{SyntaxFault};
@@ -25,7 +26,7 @@ pub enum SyntaxFault {
     Lex(LexFault),
     /// No query goes on with the token at this place, or none ends there.
     Unexpected(u32),
-    /// As Unexpected, but a query with an expression higher than 64 goes on so.
+    /// As Unexpected, but a query with an expression higher than `EXPRESSION_HEIGHT` goes on so.
     Deep(u32),
     /// Memory ran out.
     NoMemory,
@@ -45,7 +46,7 @@ fn place_or(input: &Input<'_>, end: u32) -> u32
 fn tree_of(alloc: Global, text: &[u8], base: u32) -> Result<Ast, SyntaxFault>
     requires short { base + length text.now < 2 ^ 32 }
     requires lexed { IsOk (tokens base text.now) }
-    ensures { Gives result (answer_of (base + length text.now) (read_whole 64 (lexemes base text.now))) }
+    ensures { Gives result (answer_of (base + length text.now) (read_whole EXPRESSION_HEIGHT (lexemes base text.now))) }
 {
     let end = base + text.len() as u32;
     let mut input = Input::new(text, base);
@@ -60,7 +61,7 @@ fn tree_of(alloc: Global, text: &[u8], base: u32) -> Result<Ast, SyntaxFault>
 /// The answer to a text.
 fn answer_to(alloc: Global, text: &[u8], base: u32) -> Result<Ast, SyntaxFault>
     requires { base + length text.now < 2 ^ 32 }
-    ensures { Gives result (answer 64 base text.now) }
+    ensures { Gives result (answer EXPRESSION_HEIGHT base text.now) }
 {
     match check(text, base) {
         Ok(()) => tree_of(alloc, text, base),
@@ -70,7 +71,7 @@ fn answer_to(alloc: Global, text: &[u8], base: u32) -> Result<Ast, SyntaxFault>
 
 /// The tree of a query, whose first byte stands at `base` in its file.
 ///
-/// The text has no `;`. A tree is within bounds where none of its expressions is higher than 64: a literal,
+/// The text has no `;`. A tree is within bounds where none of its expressions is higher than `EXPRESSION_HEIGHT` (64): a literal,
 /// a name, a property and a call have the height 0, and each operator, sign, NOT, IS test and pair of
 /// parentheses is one higher than the highest expression inside.
 ///
@@ -82,17 +83,17 @@ fn answer_to(alloc: Global, text: &[u8], base: u32) -> Result<Ast, SyntaxFault>
 pub fn parse(alloc: Global, text: &[u8], base: u32) -> Result<Ast, SyntaxFault>
     requires { base + length text.now < 2 ^ 32 }
     // What is given is the tree of the text.
-    ensures found { IfOk result (λ q. IsTree 64 base text.now q) }
+    ensures found { IfOk result (λ q. IsTree EXPRESSION_HEIGHT base text.now q) }
     // The tree of the text is given, unless memory runs out.
-    ensures only { (q : Ast) → IsTree 64 base text.now q → MatchResult result (λ found. found ≡ q) (λ e. e ≡ SyntaxFault.NoMemory) }
+    ensures only { (q : Ast) → IsTree EXPRESSION_HEIGHT base text.now q → MatchResult result (λ found. found ≡ q) (λ e. e ≡ SyntaxFault.NoMemory) }
     // A tree has no more text literals than its text has bytes.
     ensures literals { IfOk result (λ q. length (query_literals q) ≤ length text.now) }
     // Each place in a tree lies in the text, or at its end.
     ensures places { IfOk result (λ q. AllByRecursion (IsWithin base (base + length text.now)) (query_places q)) }
     // What is refused is refused for its cause.
-    ensures fault { IfErr result (λ e. e ≢ SyntaxFault.NoMemory → IsFault 64 base text.now e) }
+    ensures fault { IfErr result (λ e. e ≢ SyntaxFault.NoMemory → IsFault EXPRESSION_HEIGHT base text.now e) }
     // The cause of a refusal is told, unless memory runs out.
-    ensures only_fault { (e : SyntaxFault) → IsFault 64 base text.now e → MatchResult result (λ q. ⊥) (λ told. told ≢ SyntaxFault.NoMemory → told ≡ e) }
+    ensures only_fault { (e : SyntaxFault) → IsFault EXPRESSION_HEIGHT base text.now e → MatchResult result (λ q. ⊥) (λ told. told ≢ SyntaxFault.NoMemory → told ≡ e) }
 {
     answer_to(alloc, text, base)
 }

@@ -1,26 +1,23 @@
 -- What binding a variable does to the assignments that agree, and what they have in common.
-use Rattle.std.proofs.Common.{◌≡◌, ℕ, zero, suc, ◌+◌, ◌<◌, ◌≤◌, Bool, true, false, cond, ◌&&◌, ◌==◌, eqb, List, [], ◌∷◌, length, map, get_or, set, Option, Some, None}
+use Rattle.std.proofs.Common.{◌≡◌, ℕ, zero, suc, ◌<◌, Bool, true, false, cond, ◌&&◌, eqb, List, [], ◌∷◌, length, map, get_or, set, Some}
 use Rattle.std.proofs.Common.{refl, sym, ap, ap₂, ◌∙◌, subst, arith, true≢false}
 use Rattle.std.specs.Prelude.{slice_get}
 use Rattle.std.specs.List.{AllByRecursion, list_all}
 use Rattle.std.specs.Option.{option_and_then, option_map_or}
 use Rattle.std.proofs.lemmas.Bool.{eqb-true, and_parts}
 use Rattle.std.proofs.lemmas.List.{length-map}
-use Rattle.adfs_base.specs.declared.value.Value.{Value}
 use Rattle.adfs_base.specs.declared.value.Value.TheVariants as value
 use Rattle.graph_tables.specs.Graph.{PropertyGraph}
 use Rattle.pgql_meaning.specs.Assignments.{range_of, ranges_of}
 use Rattle.pgql_meaning.specs.Captured.{captured, captured_value, element_at, element_of, use_of}
-use Rattle.pgql_meaning.specs.Fits.{Test, Labels, Joined, Holds, has_labels, is_joined, is_labelled, meets, runs_between}
+use Rattle.pgql_meaning.specs.Fits.{Test, Labels, Joined, Holds, has_labels, meets, runs_between}
 use Rattle.typed_expr.specs.Parts.{captures}
 use Rattle.typed_expr.specs.Val.{passes, val}
-use Rattle.typed_expr.specs.WellFormed.{are_edges}
 use Rattle.typed_expr.specs.declared.expr.Expr.{Expr}
 use Rattle.typed_expr.specs.declared.query.Capture.{Capture}
-use Rattle.typed_expr.specs.declared.query.EdgeJoin.{EdgeJoin}
 use Rattle.typed_expr.specs.declared.query.Query.{Query}
 use Rattle.typed_expr.specs.declared.query.Variable.{Variable}
-use Rattle.stage_plan.specs.Moves.{IsBound, IsFree, MayAsk, is_edge}
+use Rattle.stage_plan.specs.Moves.{IsBound, IsFree, MayAsk}
 use Rattle.stage_plan.specs.Walk.{is_known, is_ready}
 use Rattle.plan_tree.specs.Agreeing.{IsWithin, agrees}
 use Rattle.plan_tree.proofs.Values.{IsSame, val-same}

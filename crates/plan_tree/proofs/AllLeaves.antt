@@ -1,7 +1,7 @@
 -- The leaves of a plan's tree over the parts of a graph stand for all matches.
-use Rattle.std.proofs.Common.{◌≡◌, ℕ, zero, suc, ◌+◌, ◌-◌, ◌*◌, ◌/◌, ◌%◌, ◌<◌, ◌≤◌, ◌^◌, ◌⊎◌, max, Bool, true, false, cond, ◌&&◌, ◌==◌, eqb, ltb, List, [], ◌∷◌, ◌++◌, length, map, get_or}
-use Rattle.std.proofs.Common.{set, replicate, Option, Some, None}
-use Rattle.std.proofs.Common.{count_by, sum_by, filter, flat_map, refl, sym, ap, ap₂, ◌∙◌, subst, arith, true≢false, inl, inr, append-nil, length-set, get_or-set_same, get_or-set_other}
+use Rattle.std.proofs.Common.{◌≡◌, ℕ, zero, suc, ◌+◌, ◌-◌, ◌*◌, ◌/◌, ◌<◌, ◌≤◌, ◌⊎◌, max, Bool, true, false, cond, ◌==◌, eqb, ltb, List, [], ◌∷◌, ◌++◌, length, map, get_or}
+use Rattle.std.proofs.Common.{set, replicate, Some}
+use Rattle.std.proofs.Common.{count_by, sum_by, filter, flat_map, refl, sym, ap, ap₂, ◌∙◌, subst, arith, true≢false, inl, inr, length-set, get_or-set_same, get_or-set_other}
 use Rattle.std.specs.Prelude.{slice_get, slice_index}
 use Rattle.std.specs.List.{AllByRecursion, range_with_len}
 use Rattle.std.proofs.lemmas.Bool.{cases_eq, cases_lt, eqb-true, eq-eqb, le-ltb, lt-ltb, ne_eqb}
@@ -9,41 +9,34 @@ use Rattle.std.specs.Int.{div_ceil}
 use Rattle.std.proofs.lemmas.Grind.{div_ceil_times}
 use Rattle.std.proofs.lemmas.Nat.{div_below, mod_below}
 use Rattle.std.proofs.Math.Nat.{mul_comm}
-use Rattle.std.proofs.lemmas.List.Sums.{sum_by-cons}
 use Rattle.std.proofs.lemmas.List.FromFn.{get_or-map-range_with_len, length-map-range_with_len}
-use Rattle.graph_tables.specs.Graph.{EndsIn, PropertyGraph, Vertex}
+use Rattle.graph_tables.specs.Graph.{PropertyGraph}
 use Rattle.match_context.specs.Leaves.{leaves, leaves_within, machine_leaves, root_leaves, tree_leaves}
 use Rattle.match_context.specs.Tree.{Tree}
 use Rattle.match_context.specs.declared.context.Context.{Context}
-use Rattle.partition.specs.Owners.{IsOwner, block_size, machine_of}
-use Rattle.partition.specs.Parts.{MachinePart, numbered, owners_in, part_of, part_with, parts_of, vertices_of}
+use Rattle.partition.specs.Owners.{IsOwner, machine_of}
+use Rattle.partition.specs.Parts.{owners_in, part_of, part_with}
 use Rattle.partition.specs.declared.owner.Owner.{Owner}
 use Rattle.partition.specs.declared.owner.Owner.TheVariants as owner
 use Rattle.pgql_meaning.specs.Answer.{all_matches}
 use Rattle.pgql_meaning.specs.Assignments.{ranges_of}
-use Rattle.pgql_meaning.specs.Shown.{HasShown}
-use Rattle.result_collect.specs.Contexts.{StandForEach}
-use Rattle.typed_expr.specs.WellFormed.{IsWellFormed}
 use Rattle.typed_expr.specs.declared.query.Capture.{Capture}
 use Rattle.typed_expr.specs.declared.query.Query.{Query}
 use Rattle.stage_plan.specs.Hops.{hops_of}
-use Rattle.stage_plan.specs.Laws.{IsWhole}
-use Rattle.stage_plan.specs.Moves.{IsOrdered, Move, Start, moves_from, moves_of}
-use Rattle.stage_plan.specs.Plans.{Course, plan_of, words_of}
+use Rattle.stage_plan.specs.Moves.{IsOrdered, Start, moves_from, moves_of}
 use Rattle.stage_plan.specs.Walk.{Walk, rooted, stages_from, stages_of, walk_after}
 use Rattle.stage_plan.specs.declared.hop.Hop.{Hop}
-use Rattle.stage_plan.specs.declared.hop.Hop.TheVariants as hop
 use Rattle.stage_plan.proofs.Wellness.{wellness}
 use Rattle.stage_plan.proofs.Whole.{plans_are_whole}
-use Rattle.plan_tree.specs.Laws.{LeavesAreAll, SameCounts, over_parts}
-use Rattle.plan_tree.specs.PlanTree.{PlanOverParts, no_words, numbers_of, numbers_on, root_of, tree_of}
+use Rattle.plan_tree.specs.Laws.{LeavesAreAll, over_parts}
+use Rattle.plan_tree.specs.PlanTree.{no_words, numbers_of, numbers_on, root_of, tree_of}
 use Rattle.plan_tree.specs.Rows.{rows_of, unbound}
-use Rattle.plan_tree.specs.Told.{AreTold, with_number}
+use Rattle.plan_tree.specs.Told.{with_number}
 use Rattle.plan_tree.proofs.Agree.{IsWithin-bind, at, range_of_free}
 use Rattle.plan_tree.proofs.AllRows.{IsWithin-unbound, moves_lead_to_all}
 use Rattle.plan_tree.proofs.Bags.{count_by-append, count_by-flat_map, sum_by-each, sum_by-filter, sum_by-plus, sum_by-same, sum_by-zero}
 use Rattle.plan_tree.proofs.Lead.{Lead, lead-append, lead-none, lead-same}
-use Rattle.plan_tree.proofs.Leaves.{HasNumbers, Stands, lead}
+use Rattle.plan_tree.proofs.Leaves.{Stands, lead}
 use Rattle.plan_tree.proofs.PartLaws.{numbers-are}
 use Rattle.plan_tree.proofs.Tells.{HasRoom, Tells, all-get}
 

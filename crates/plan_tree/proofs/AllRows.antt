@@ -1,21 +1,20 @@
 -- A plan's moves lead to all assignments that fit.
-use Rattle.std.proofs.Common.{◌≡◌, ℕ, zero, suc, ◌+◌, ◌<◌, Bool, true, false, cond, ◌&&◌, ◌==◌, eqb, ltb, List, [], ◌∷◌, ◌++◌, length, map, get_or, set, replicate, Option, Some, None}
-use Rattle.std.proofs.Common.{count_by, filter, flat_map, refl, sym, ap, ap₂, ◌∙◌, subst, arith, true≢false, length-set}
+use Rattle.std.proofs.Common.{◌≡◌, ℕ, zero, suc, ◌+◌, ◌<◌, Bool, true, false, cond, ◌&&◌, eqb, List, [], ◌∷◌, ◌++◌, length, map, get_or, set, replicate, Option, Some, None}
+use Rattle.std.proofs.Common.{flat_map, refl, sym, ap, ap₂, ◌∙◌, subst, arith, true≢false, length-set}
 use Rattle.std.specs.Prelude.{slice_get}
 use Rattle.std.specs.Option.{option_and_then, option_map_or}
 use Rattle.std.specs.List.{AllByRecursion, range_with_len, list_all}
-use Rattle.std.proofs.lemmas.Bool.{lt-ltb, eqb-true, eq-eqb, eqb-false, ne_eqb}
+use Rattle.std.proofs.lemmas.Bool.{lt-ltb, ne_eqb}
 use Rattle.match_context.specs.Bags.{SameBag, total}
-use Rattle.graph_tables.specs.Graph.{Edge, EndsIn, PropertyGraph}
+use Rattle.graph_tables.specs.Graph.{Edge, PropertyGraph}
 use Rattle.pgql_meaning.specs.Assignments.{assignments, ranges_of}
-use Rattle.pgql_meaning.specs.Answer.{all_matches}
-use Rattle.pgql_meaning.specs.Fits.{Test, Joined, fits, meets, runs_between, tests_of}
+use Rattle.pgql_meaning.specs.Fits.{fits, meets, runs_between, tests_of}
 use Rattle.typed_expr.specs.declared.query.Query.{Query}
 use Rattle.typed_expr.specs.declared.query.Variable.{Variable}
-use Rattle.stage_plan.specs.Moves.{AskAll, Move, Start, Go, Close, Ask, IsBound, IsOrdered, asked_by, edge_along}
+use Rattle.stage_plan.specs.Moves.{Move, Start, Go, Close, Ask, IsBound, IsOrdered, asked_by}
 use Rattle.plan_tree.specs.Agreeing.{IsWithin, agrees}
-use Rattle.plan_tree.specs.Laws.{MovesLeadToAll, SameCounts}
-use Rattle.plan_tree.specs.Rows.{rows_of, unbound}
+use Rattle.plan_tree.specs.Laws.{MovesLeadToAll}
+use Rattle.plan_tree.specs.Rows.{unbound}
 use Rattle.plan_tree.proofs.Bags.{AllByRecursion-map, bit, count_by-filter, sum_by-each}
 use Rattle.plan_tree.proofs.Agree.{at, length_ranges, range_at}
 use Rattle.plan_tree.proofs.Edges.{leads}

@@ -1,20 +1,19 @@
 -- A context that tells of an assignment fits exactly where the assignment passes what is asked there.
-use Rattle.std.proofs.Common.{◌≡◌, ℕ, zero, suc, ◌+◌, ◌<◌, ◌≤◌, Bool, true, false, cond, ◌&&◌, ◌==◌, eqb, List, [], ◌∷◌, ◌++◌, length, map, get_or, set, Option, Some, None}
+use Rattle.std.proofs.Common.{◌≡◌, ℕ, zero, suc, ◌<◌, Bool, true, false, cond, ◌&&◌, List, [], ◌∷◌, length, set, Option, Some, None}
 use Rattle.std.proofs.Common.{refl, sym, ap, ap₂, ◌∙◌, subst, arith}
 use Rattle.std.specs.Prelude.{slice_get, slice_index}
-use Rattle.std.specs.List.{AllByRecursion}
 use Rattle.element_store.specs.Elements.{Element}
 use Rattle.graph_tables.specs.Graph.{PropertyGraph, without_ends}
-use Rattle.partition.specs.Parts.{MachinePart, part_with}
+use Rattle.partition.specs.Parts.{part_with}
 use Rattle.pgql_meaning.specs.Captured.{element_of}
-use Rattle.pgql_meaning.specs.Fits.{Holds, Labels, has_labels, meets}
+use Rattle.pgql_meaning.specs.Fits.{Holds, has_labels, meets}
 use Rattle.pgql_meaning.specs.Shown.{HasShown}
 use Rattle.typed_expr.specs.declared.query.Query.{Query}
-use Rattle.stage_plan.specs.Moves.{Ask, IsOrdered, Move, ask_about, ask_conjuncts, is_edge}
+use Rattle.stage_plan.specs.Moves.{IsOrdered, Move, ask_about, ask_conjuncts, is_edge}
 use Rattle.stage_plan.specs.Walk.{Walk, captures_of, conjunct_at, gains, gains_of, learned, uses, whole}
-use Rattle.plan_tree.specs.Answers.{all_hold, along, arrived_at, arrived_by, labels_of, tested, vertex_in}
+use Rattle.plan_tree.specs.Answers.{along, arrived_at, arrived_by, labels_of, tested, vertex_in}
 use Rattle.plan_tree.specs.Rows.{rows_of}
-use Rattle.plan_tree.specs.Told.{AreTold, all_told, written}
+use Rattle.plan_tree.specs.Told.{AreTold, written}
 use Rattle.plan_tree.proofs.Agree.{at}
 use Rattle.plan_tree.proofs.PartLaws.{vertex-in}
 use Rattle.plan_tree.proofs.Tells.{HasRoom, Tells, all_hold-meet, all_told-known, conjuncts_meet, element-is, labels-meet, tells-written, uses-known}

@@ -1,6 +1,6 @@
 -- Counts over lists: what a filter, a flat_map and an exchange of two sums leave.
-use Rattle.std.proofs.Common.{◌≡◌, ℕ, suc, ◌+◌, ◌*◌, ◌<◌, Bool, true, false, cond, ◌&&◌, List, [], ◌∷◌, ◌++◌, length, map, All, sum_by, count_by, filter, flat_map, refl, sym, ap, ap₂, ◌∙◌}
-use Rattle.std.proofs.Common.{arith, get_or, add_assoc, add_comm, add-zero, zero-add}
+use Rattle.std.proofs.Common.{◌≡◌, ℕ, ◌+◌, Bool, true, false, cond, ◌&&◌, List, [], ◌∷◌, ◌++◌, map, sum_by, count_by, filter, flat_map, refl, sym, ap, ap₂, ◌∙◌}
+use Rattle.std.proofs.Common.{arith}
 use Rattle.std.specs.List.{AllByRecursion}
 use Rattle.std.proofs.lemmas.List.Sums.{sum_by-cons, sum_by-append}
 

@@ -1,7 +1,6 @@
 -- A value that means something under texts is found to do so.
-use Rattle.std.proofs.Common.{◌≡◌, ℕ, ℤ, pos, negsuc, neg_ℤ, ◌<◌, ◌≤◌, ◌&&◌, Bool, true, false, not, List, [], ◌∷◌, length, refl, ap, ap₂, ◌∙◌, arith, subst, int_lt}
-use Rattle.std.specs.Prelude.{◌≤ℤ◌, nat_lt}
-use Rattle.std.specs.List.{AllByRecursion}
+use Rattle.std.proofs.Common.{◌≡◌, ℕ, ℤ, pos, negsuc, ◌&&◌, true, false, not, List, length, refl, ap₂, arith, subst, int_lt}
+use Rattle.std.specs.Prelude.{◌≤ℤ◌}
 use Rattle.std.proofs.lemmas.Bool.{lt-ltb}
 use Rattle.std.proofs.lemmas.Int.{ints}
 use Rattle.adfs_base.specs.declared.value.Value.{Value}
@@ -11,11 +10,11 @@ use Rattle.value_text.specs.Valid.{IsValid}
 use Rattle.jiff_core.specs.Calendar.{day_count, days_from_civil, days_of_months, days_of_years}
 use Rattle.plan_tree.specs.Told.{is_day, is_valid}
 
-first_day : days_from_civil (pos 0) 1 1 ≡ negsuc 719527
+pub first_day : days_from_civil (pos 0) 1 1 ≡ negsuc 719527
 unfolding days_from_civil day_count days_of_years days_of_months
 first_day = refl
 
-last_day : days_from_civil (pos 9999) 12 31 ≡ pos 2932896
+pub last_day : days_from_civil (pos 9999) 12 31 ≡ pos 2932896
 unfolding days_from_civil day_count days_of_years days_of_months
 last_day = refl
 

@@ -1,11 +1,10 @@
 -- Below a context that tells of an assignment stand the rows that the plan's moves lead to from there.
-use Rattle.std.proofs.Common.{◌≡◌, ℕ, zero, suc, ◌+◌, ◌-◌, ◌<◌, ◌≤◌, ◌^◌, ◌%◌, ◌⊎◌, Bool, true, false, cond, ◌&&◌, ◌==◌, eqb, List, [], ◌∷◌, ◌++◌, length, map, get_or, set, Option, Some, None}
+use Rattle.std.proofs.Common.{◌≡◌, ℕ, zero, suc, ◌+◌, ◌<◌, ◌^◌, ◌%◌, ◌⊎◌, Bool, true, false, cond, ◌&&◌, ◌==◌, eqb, List, [], ◌∷◌, ◌++◌, length, map, get_or, set, Option, Some, None}
 use Rattle.std.proofs.Common.{count_by, sum_by, filter, flat_map, refl, sym, ap, ap₂, ◌∙◌, subst, arith, inl, inr, true≢false, append-nil, length-set, get_or-set_same, get_or-set_other}
 use Rattle.std.specs.Prelude.{slice_get, slice_index, nat_lt}
 use Rattle.std.specs.List.{AllByRecursion, list_all, range_with_len}
-use Rattle.std.proofs.lemmas.Bool.{and_parts, cases_eq, eqb-true, eq-eqb, lt-ltb}
+use Rattle.std.proofs.lemmas.Bool.{and_parts, cases_eq, eqb-true, lt-ltb}
 use Rattle.std.proofs.lemmas.List.{get_or_default}
-use Rattle.adfs_base.specs.declared.value.Value.{Value}
 use Rattle.element_store.specs.Words.{value_from}
 use Rattle.graph_tables.specs.Graph.{Edge, EndsIn, PropertyGraph, without_ends}
 use Rattle.match_context.specs.Leaves.{leaves_within, rows_of as rows_in}
@@ -14,15 +13,15 @@ use Rattle.match_context.specs.Words.{captured_in, number_in}
 use Rattle.match_context.specs.declared.context.Context.{Context}
 use Rattle.partition.specs.Parts.{Entry, MachinePart, entries_of, entry_of, other_end, part_with}
 use Rattle.pgql_meaning.specs.Assignments.{ranges_of}
-use Rattle.pgql_meaning.specs.Captured.{captured, captured_value, element_of}
+use Rattle.pgql_meaning.specs.Captured.{captured_value, element_of}
 use Rattle.pgql_meaning.specs.Shown.{HasShown}
-use Rattle.result_collect.specs.Contexts.{StandsFor, kind_of, numbers_in, values_from, values_in}
+use Rattle.result_collect.specs.Contexts.{StandsFor, kind_of, values_from}
 use Rattle.typed_expr.specs.declared.query.Capture.{Capture}
 use Rattle.typed_expr.specs.declared.query.Query.{Query}
 use Rattle.stage_plan.specs.Laws.{AreNamed, EndsWithOutput}
-use Rattle.stage_plan.specs.Moves.{Close, Go, IsBound, IsFree, IsOrdered, Move, ask_about, go_along, is_edge, moves_from}
+use Rattle.stage_plan.specs.Moves.{Close, Go, IsBound, IsOrdered, Move, ask_about, go_along, is_edge, moves_from}
 use Rattle.stage_plan.specs.Plans.{Course}
-use Rattle.stage_plan.specs.Walk.{Walk, arrived as arrived_walk, gains, learned, stage_of, stages_from, walk_after, with_gains}
+use Rattle.stage_plan.specs.Walk.{Walk, arrived as arrived_walk, gains, learned, stage_of, stages_from, walk_after}
 use Rattle.stage_plan.specs.declared.hop.Hop.{Hop}
 use Rattle.stage_plan.specs.declared.hop.Hop.TheVariants as hop
 use Rattle.stage_plan.specs.declared.stage.Stage.{Stage}
@@ -31,10 +30,10 @@ use Rattle.plan_tree.specs.Answers.{ahead, along, arrived, child_or_pass, edge_i
 use Rattle.plan_tree.specs.Laws.{SameCounts}
 use Rattle.plan_tree.specs.PlanTree.{PlanOverParts, taken, tree_of}
 use Rattle.plan_tree.specs.Rows.{edges_at, rows_of}
-use Rattle.plan_tree.specs.Told.{AreTold, all_told, with_number}
-use Rattle.plan_tree.proofs.Agree.{IsWithin-bind, IsWithin-length, at, range_at, range_of_free}
-use Rattle.plan_tree.proofs.Arrive.{ArrivesHere, Fits, IsHere, along-edge, arrival, ordered-about}
-use Rattle.plan_tree.proofs.Bags.{bit, count_by-flat_map, sum_by-filter, sum_by-same}
+use Rattle.plan_tree.specs.Told.{AreTold, with_number}
+use Rattle.plan_tree.proofs.Agree.{IsWithin-bind, at, range_at, range_of_free}
+use Rattle.plan_tree.proofs.Arrive.{ArrivesHere, Fits, along-edge, arrival, ordered-about}
+use Rattle.plan_tree.proofs.Bags.{count_by-flat_map, sum_by-filter, sum_by-same}
 use Rattle.plan_tree.proofs.Lead.{Lead, lead-append, lead-items, lead-none, lead-one, lead-same, rows_at}
 use Rattle.plan_tree.proofs.PartLaws.{IsEntryOf, entries-all, entries-in, sum_by-entries}
 use Rattle.plan_tree.proofs.Tells.{HasRoom, Tells, all_told-known, element-is, others-known, tells-number, uses-known, value-told}

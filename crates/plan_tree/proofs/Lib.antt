@@ -5,10 +5,12 @@ pub mod Arrive
 pub mod Bags
 pub mod Days
 pub mod Edges
+pub mod KindsTold
 pub mod Lead
 pub mod Leaves
 pub mod PartLaws
 pub mod Ranges
+pub mod RowOrder
 pub mod RowsOf
 pub mod Tells
 pub mod Trees

@@ -1,17 +1,16 @@
 -- What a machine's part has of the graph.
-use Rattle.std.proofs.Common.{◌≡◌, ℕ, zero, suc, ◌+◌, ◌<◌, ◌≤◌, ◌⊎◌, Bool, true, false, cond, not, ◌==◌, eqb, List, [], ◌∷◌, ◌++◌, length, map, get_or, Option, Some, None, count_by, sum_by, filter}
-use Rattle.std.proofs.Common.{refl, sym, ap, ap₂, ◌∙◌, subst, arith, true≢false, position, add-zero}
+use Rattle.std.proofs.Common.{◌≡◌, ℕ, zero, suc, ◌+◌, ◌<◌, Bool, true, false, cond, not, ◌==◌, List, [], ◌∷◌, ◌++◌, length, map, Some, None, sum_by, filter}
+use Rattle.std.proofs.Common.{refl, sym, ap, ap₂, ◌∙◌, subst, arith, position}
 use Rattle.std.specs.Prelude.{slice_get, slice_index, nat_eq, nat_lt, option_map}
 use Rattle.std.specs.List.{AllByRecursion, position_or_len, range_with_len}
 use Rattle.std.proofs.lemmas.Bool.Decides.{nat_tests}
 use Rattle.std.specs.Option.{option_and_then, option_map_or}
-use Rattle.std.proofs.lemmas.Bool.{eq-eqb, eqb-true, lt-ltb, ne_eqb}
+use Rattle.std.proofs.lemmas.Bool.{eq-eqb, lt-ltb, ne_eqb}
 use Rattle.std.proofs.lemmas.List.Sums.{sum_by-cons}
-use Rattle.element_store.specs.Elements.{Element}
 use Rattle.graph_tables.specs.Graph.{Edge, EndsIn, PropertyGraph, Vertex, without_ends}
 use Rattle.partition.specs.Parts.{Entry, MachinePart, entries_of, entry_of, entry_order, lists_of, near_end, numbered, other_end, part_with, vertices_of}
 use Rattle.sorted_lists.specs.Sorted.{before_by, in_order, placed}
-use Rattle.plan_tree.specs.Answers.{entries_in, place_in, vertex_in}
+use Rattle.plan_tree.specs.Answers.{entries_in, vertex_in}
 use Rattle.plan_tree.specs.Rows.{edges_at}
 
 -- the first place of two lists, one behind an item

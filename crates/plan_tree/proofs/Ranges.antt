@@ -1,6 +1,6 @@
 -- How often a number stands among the numbers below a bound.
-use Rattle.std.proofs.Common.{◌≡◌, ℕ, zero, suc, ◌+◌, ◌<◌, ◌≤◌, ◌⊎◌, Bool, true, false, cond, ◌&&◌, eqb, ltb, List, [], ◌∷◌, ◌++◌, length, map, get_or, slice_get, All, Option, Some, None}
-use Rattle.std.proofs.Common.{sum_by, count_by, filter, flat_map, refl, sym, ap, ap₂, ◌∙◌, subst, arith, inl, inr, add-suc, add-zero, zero-add, true≢false}
+use Rattle.std.proofs.Common.{◌≡◌, ℕ, zero, suc, ◌+◌, ◌<◌, ◌≤◌, ◌⊎◌, Bool, true, false, cond, eqb, ltb}
+use Rattle.std.proofs.Common.{sum_by, count_by, refl, sym, ap, ap₂, ◌∙◌, arith, inl, inr, add-zero, zero-add, true≢false}
 use Rattle.std.specs.List.{range_with_len}
 use Rattle.std.proofs.lemmas.Bool.{eqb-true, eq-eqb, ne_eqb, lt-ltb, le-ltb, cases_lt}
 use Rattle.std.proofs.lemmas.List.Sums.{sum_by-cons}

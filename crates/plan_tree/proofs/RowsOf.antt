@@ -1,6 +1,6 @@
 -- The rows that moves lead to are the assignments that have the bound numbers and meet what is still asked.
-use Rattle.std.proofs.Common.{◌≡◌, ℕ, zero, suc, ◌+◌, ◌<◌, Bool, true, false, cond, ◌&&◌, eqb, ltb, List, [], ◌∷◌, ◌++◌, length, map, get_or, set, sum_by, count_by, filter, flat_map}
-use Rattle.std.proofs.Common.{refl, sym, ap, ap₂, ◌∙◌, subst, arith, true≢false}
+use Rattle.std.proofs.Common.{◌≡◌, ℕ, zero, suc, ◌+◌, ◌<◌, Bool, true, false, cond, ◌&&◌, eqb, ltb, List, [], ◌∷◌, length, map, set, count_by, filter, flat_map}
+use Rattle.std.proofs.Common.{refl, sym, ap, ◌∙◌, subst, arith, true≢false}
 use Rattle.std.specs.Prelude.{slice_get}
 use Rattle.std.specs.List.{AllByRecursion, range_with_len, list_all}
 use Rattle.std.proofs.lemmas.Bool.{eqb-true, eqb-false, eq-eqb, ne_eqb, and_parts}
@@ -8,12 +8,12 @@ use Rattle.std.proofs.lemmas.List.Sums.{sum_by-cons}
 use Rattle.graph_tables.specs.Graph.{Edge, EndsIn, PropertyGraph}
 use Rattle.partition.specs.Parts.{other_end}
 use Rattle.pgql_meaning.specs.Assignments.{assignments, ranges_of}
-use Rattle.pgql_meaning.specs.Fits.{Test, meets}
+use Rattle.pgql_meaning.specs.Fits.{meets}
 use Rattle.typed_expr.specs.declared.query.Query.{Query}
-use Rattle.stage_plan.specs.Moves.{Move, Start, Go, Close, Ask, IsBound, IsFree, IsOrdered, MayAsk, MayMove, bound_after}
+use Rattle.stage_plan.specs.Moves.{Move, Start, Go, Close, Ask, IsOrdered}
 use Rattle.plan_tree.specs.Agreeing.{IsWithin, agrees}
 use Rattle.plan_tree.specs.Rows.{edges_at, rows_of}
-use Rattle.plan_tree.proofs.Bags.{AllByRecursion-always, AllByRecursion-filter, AllByRecursion-map, bit, count_by-and, count_by-filter, count_by-flat_map, count_by-map, count_by-parts, count_by-same}
+use Rattle.plan_tree.proofs.Bags.{AllByRecursion-filter, AllByRecursion-map, bit, count_by-and, count_by-filter, count_by-flat_map, count_by-map, count_by-parts, count_by-same}
 use Rattle.plan_tree.proofs.Bags.{sum_by-each, sum_by-same, sum_by-zero}
 use Rattle.plan_tree.proofs.Agree.{IsWithin-bind, agrees-at, agrees-bind, at, meets-agrees, range_of_free}
 use Rattle.plan_tree.proofs.Edges.{IsInside, count_by-edges_at, edges_at-inside, leads}

@@ -1,5 +1,5 @@
 -- What the words of a context tell of an assignment stays true as one binds, arrives and tests.
-use Rattle.std.proofs.Common.{◌≡◌, ℕ, zero, suc, ◌+◌, ◌<◌, ◌≤◌, ◌⊎◌, Bool, true, false, cond, not, ◌&&◌, ◌||◌, ◌==◌, eqb, List, [], ◌∷◌, ◌++◌, length, map, get_or, set, filter, flat_map}
+use Rattle.std.proofs.Common.{◌≡◌, ℕ, zero, suc, ◌+◌, ◌<◌, ◌≤◌, ◌⊎◌, Bool, true, false, cond, not, ◌&&◌, ◌||◌, ◌==◌, eqb, List, [], ◌∷◌, ◌++◌, length, map, get_or, set}
 use Rattle.std.proofs.Common.{Option, Some, None, refl, sym, ap, ap₂, ◌∙◌, subst, arith, true≢false, inl, inr, length-set, get_or-set_same, get_or-set_other, slice_index_or}
 use Rattle.std.specs.Prelude.{slice_get}
 use Rattle.std.specs.Int.{bit_at}
@@ -16,7 +16,7 @@ use Rattle.element_store.specs.Words.{value_from}
 use Rattle.graph_tables.specs.Graph.{IsShown, PropertyGraph, without_ends}
 use Rattle.match_context.specs.Words.{captured_in}
 use Rattle.pgql_meaning.specs.Captured.{captured, captured_value, element_at, element_of, use_of}
-use Rattle.pgql_meaning.specs.Fits.{Holds, Labels, has_labels, is_labelled, meets}
+use Rattle.pgql_meaning.specs.Fits.{Holds, Labels, has_labels, meets}
 use Rattle.pgql_meaning.specs.Shown.{HasShown}
 use Rattle.result_collect.specs.Contexts.{kind_of, values_from}
 use Rattle.typed_expr.specs.Parts.{captures}
@@ -97,7 +97,7 @@ tells-number g q known c words v i room tells sizes below free = record {
       get_or-set_other words (1 + v) (1 + u) i 0 (λ e. other (omega arith)) ∙ tells.numbers u low ∙ sym (get_or-set_other c v u i 0 other)
 
 -- a capture of the variable stands among its places
-places-in : (cs : List Capture) (k v j : ℕ) (x : Capture) → slice_get cs j ≡ Some x → stands_in (k + j) (places_from k v cs) ≡ eqb x.variable v
+pub places-in : (cs : List Capture) (k v j : ℕ) (x : Capture) → slice_get cs j ≡ Some x → stands_in (k + j) (places_from k v cs) ≡ eqb x.variable v
 places-in [] k v j x found = cc
 places-in (y ∷ cs) k v zero x found =
     let same : y ≡ x = cc in
@@ -123,7 +123,7 @@ places-in (y ∷ cs) k v (suc j) x found = at_answer (eqb y.variable v) (places-
       ap (λ b. b || stands_in (k + suc j) (places_from (k + 1) v cs)) (ne_eqb (k + suc j) k (λ e. omega arith)) ∙ shift ∙ later
   at_answer false later = shift ∙ later
 
-places-low : (cs : List Capture) (k v : ℕ) → AllByRecursion (λ p. p < k + length cs) (places_from k v cs)
+pub places-low : (cs : List Capture) (k v : ℕ) → AllByRecursion (λ p. p < k + length cs) (places_from k v cs)
 places-low [] k v = tt
 places-low (y ∷ cs) k v = at_answer (eqb y.variable v) (subst (λ n. AllByRecursion (λ p. p < n) (places_from (k + 1) v cs)) (let e : k + 1 + length cs ≡ k + suc (length cs) = omega arith in e) (places-low cs (k + 1) v)) where
   at_answer : (b : Bool) → AllByRecursion (λ p. p < k + suc (length cs)) (places_from (k + 1) v cs)
@@ -196,7 +196,7 @@ value-told g q c place x told found = at_element (element_of g q c x.variable) r
   at_element None is = ap (value_from (kind_of x.what)) (word-null (kind_of x.what)) ∙ from-none (kind_of x.what)
   at_element (Some e) is = told-at g q c place x e told found is
 
-values-at : (words : List ℕ) (n k p : ℕ) (cs : List Capture)
+pub values-at : (words : List ℕ) (n k p : ℕ) (cs : List Capture)
     → slice_index_or (values_from words n k cs) p value.Null ≡ option_map_or (λ (x : Capture). value_from (kind_of x.what) (captured_in words n (k + p))) (slice_get cs p) value.Null
 values-at words n k p [] = refl
 values-at words n k zero (x ∷ cs) = ap (λ j. value_from (kind_of x.what) (captured_in words n j)) (let e : k ≡ k + 0 = omega arith in e)

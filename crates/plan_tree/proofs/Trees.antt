@@ -1,20 +1,18 @@
 -- The tree of a plan over the parts of a graph is a staged tree.
-use Rattle.std.proofs.Common.{◌≡◌, ℕ, zero, suc, ◌+◌, ◌<◌, ◌≤◌, Bool, true, false, cond, ◌&&◌, ◌==◌, eqb, List, [], ◌∷◌, length, map, drop, get_or, Option, Some, None, filter}
-use Rattle.std.proofs.Common.{refl, sym, ap, ap₂, ◌∙◌, subst, arith, position}
-use Rattle.std.specs.Prelude.{slice_get, slice_index, nat_eq, nat_lt}
-use Rattle.std.specs.List.{AllByRecursion, range_with_len}
+use Rattle.std.proofs.Common.{◌≡◌, ℕ, zero, suc, ◌+◌, ◌<◌, Bool, true, false, cond, ◌&&◌, ◌==◌, eqb, List, [], ◌∷◌, length, map, drop, Option, Some, None}
+use Rattle.std.proofs.Common.{refl, sym, ap, ◌∙◌, subst, arith}
+use Rattle.std.specs.Prelude.{slice_get, slice_index}
+use Rattle.std.specs.List.{AllByRecursion}
 use Rattle.std.specs.Option.{option_and_then, option_map_or}
 use Rattle.std.proofs.lemmas.Bool.{ltb-true, ne_eqb}
 use Rattle.std.proofs.lemmas.List.FromFn.{length-map-range_with_len}
-use Rattle.element_store.specs.Elements.{Element}
 use Rattle.graph_tables.specs.Graph.{EndsIn, PropertyGraph, Vertex}
-use Rattle.match_context.specs.Tree.{AreItems, Below, IsItem, IsTree, Item, Leaf, Pass, Tree, later}
+use Rattle.match_context.specs.Tree.{AreItems, Below, IsItem, Item, Pass, Tree, later}
 use Rattle.match_context.specs.declared.context.Context.{Context}
 use Rattle.partition.specs.Parts.{Entry, MachinePart, entries_of, lists_of, owners_in, part_of, part_with, parts_of, vertices_of}
 use Rattle.partition.specs.Owners.{machine_of}
 use Rattle.partition.specs.declared.owner.Owner.{Owner}
 use Rattle.typed_expr.specs.declared.query.Query.{Query}
-use Rattle.stage_plan.specs.Hops.{hops_of}
 use Rattle.stage_plan.specs.Laws.{EndsWithOutput}
 use Rattle.stage_plan.specs.Plans.{plan_of}
 use Rattle.stage_plan.specs.Walk.{Walk, rooted, stages_from, stages_of, walk_after}

@@ -1,9 +1,8 @@
 -- An expression's value rests on the captures that it uses alone.
-use Rattle.std.proofs.Common.{◌≡◌, ℕ, zero, suc, ◌+◌, ◌<◌, Bool, List, [], ◌∷◌, ◌++◌, length, refl, sym, ap, ap₂, ◌∙◌, subst, arith, slice_index_or}
+use Rattle.std.proofs.Common.{◌≡◌, ℕ, List, [], ◌∷◌, ◌++◌, refl, sym, ap, ap₂, ◌∙◌, subst, slice_index_or}
 use Rattle.std.specs.List.{AllByRecursion}
 use Rattle.adfs_base.specs.declared.value.Value.{Value}
 use Rattle.adfs_base.specs.declared.value.Value.TheVariants as value
-use Rattle.pgql_tree.specs.declared.ast.Op.{Op}
 use Rattle.typed_expr.specs.declared.expr.Expr.{Expr}
 use Rattle.typed_expr.specs.declared.expr.Expr.TheVariants as expr
 use Rattle.typed_expr.specs.Parts.{captures}
@@ -16,11 +15,11 @@ use Rattle.typed_expr.proofs.Parts.{val-Binary, val-Captured, val-Constant, val-
 abbrev pub IsSame : List Value → List Value → ℕ → Type 0
 IsSame us vs place = slice_index_or us place value.Null ≡ slice_index_or vs place value.Null
 
-All-front : (P : ℕ → Type 0) (xs ys : List ℕ) → AllByRecursion P (xs ++ ys) → AllByRecursion P xs
+pub All-front : (P : ℕ → Type 0) (xs ys : List ℕ) → AllByRecursion P (xs ++ ys) → AllByRecursion P xs
 All-front P [] ys all = tt
 All-front P (x ∷ xs) ys all = (all.0, All-front P xs ys all.1)
 
-All-rest : (P : ℕ → Type 0) (xs ys : List ℕ) → AllByRecursion P (xs ++ ys) → AllByRecursion P ys
+pub All-rest : (P : ℕ → Type 0) (xs ys : List ℕ) → AllByRecursion P (xs ++ ys) → AllByRecursion P ys
 All-rest P [] ys all = all
 All-rest P (x ∷ xs) ys all = All-rest P xs ys all.1
 

@@ -1,10 +1,9 @@
 -- What a context of a stage leads to on a machine.
-use Rattle.std.specs.Prelude.{ℕ, ◌+◌, ◌==◌, ◌&&◌, not, Bool, true, false, List, [], ◌∷◌, drop, filter, length, map, nat_eq, nat_lt, position, slice_get, slice_index, Option, Some, None, if◌then◌else◌}
+use Rattle.std.specs.Prelude.{ℕ, ◌+◌, ◌==◌, ◌&&◌, not, Bool, false, List, [], ◌∷◌, drop, filter, length, map, nat_eq, nat_lt, position, slice_get, slice_index, Option, Some, None, if◌then◌else◌}
 use Rattle.std.specs.List.{list_all}
 use Rattle.std.specs.Option.{option_and_then, option_map_or}
 use Rattle.element_store.specs.Elements.{Element}
 use Rattle.match_context.specs.Tree.{Below, Item, Leaf, Pass}
-use Rattle.match_context.specs.declared.context.Context.{Context}
 use Rattle.partition.specs.Parts.{Entry, MachinePart, lists_of}
 use Rattle.pgql_meaning.specs.Fits.{has_labels}
 use Rattle.typed_expr.specs.Val.{passes, val}

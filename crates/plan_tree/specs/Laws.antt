@@ -1,10 +1,14 @@
 -- What holds of the tree of each plan.
 use Rattle.std.specs.Prelude.{◌≡◌, ℕ, ◌<◌, ◌≤◌, ◌^◌, Bool, List, count_by, length}
 use Rattle.std.specs.List.{AllByRecursion}
+use Rattle.std.specs.List.Sorted.{IsPermutation}
 use Rattle.adfs_base.specs.declared.limits.TheConstants.{CONTEXT_WORDS}
 use Rattle.graph_tables.specs.Graph.{EndsIn, PropertyGraph}
+use Rattle.graph_tables.specs.Properties.{SchemaLists}
+use Rattle.match_context.specs.Bags.{SameBag}
 use Rattle.match_context.specs.Leaves.{tree_leaves}
 use Rattle.match_context.specs.Tree.{IsTree}
+use Rattle.match_context.specs.declared.context.Context.{Context}
 use Rattle.partition.specs.Owners.{IsOwner}
 use Rattle.partition.specs.Parts.{parts_of}
 use Rattle.partition.specs.declared.owner.Owner.{Owner}
@@ -15,6 +19,7 @@ use Rattle.typed_expr.specs.WellFormed.{IsWellFormed}
 use Rattle.typed_expr.specs.declared.query.Query.{Query}
 use Rattle.stage_plan.specs.Moves.{AskAll, Move}
 use Rattle.stage_plan.specs.Plans.{plan_of, words_of}
+use Rattle.plan_tree.specs.Kinds.{HasKinds}
 use Rattle.plan_tree.specs.PlanTree.{PlanOverParts, tree_of}
 use Rattle.plan_tree.specs.Rows.{rows_of, unbound}
 use Rattle.plan_tree.specs.Told.{AreTold}
@@ -50,3 +55,17 @@ PlansMakeTrees = (texts : List (List ℕ)) (graph : PropertyGraph) (query : Quer
     → 0 < machines → IsOwner owner (length graph.vertices) machines
     → AllByRecursion (EndsIn graph.vertices) graph.edges → IsWellFormed query
     → IsTree (tree_of (over_parts texts graph query owner machines))
+
+-- Where a graph's values are of the kinds of a schema, and the query's captures too, what is captured can be said in words.
+abbrev pub KindsAreTold : Type 0
+KindsAreTold = (texts : List (List ℕ)) (schema : SchemaLists) (graph : PropertyGraph) (query : Query)
+    → HasShown texts graph → HasKinds texts schema graph query → AreTold graph query
+
+-- Rows that are the leaves of the tree of a query's plan, in whatever order, stand for its matches, each for one.
+abbrev pub RowsAreAll : Type 0
+RowsAreAll = (texts : List (List ℕ)) (schema : SchemaLists) (graph : PropertyGraph) (query : Query) (owner : Owner) (machines : ℕ)
+    → 0 < machines → IsOwner owner (length graph.vertices) machines
+    → AllByRecursion (EndsIn graph.vertices) graph.edges → length graph.vertices < 2 ^ 32 → length graph.edges < 2 ^ 32 → HasShown texts graph
+    → IsWellFormed query → words_of query ≤ CONTEXT_WORDS → HasKinds texts schema graph query
+    → (rows : List Context) → SameBag rows (tree_leaves (tree_of (over_parts texts graph query owner machines)))
+    → (matches : List (List ℕ)) × StandForEach graph query rows matches × IsPermutation (all_matches texts graph query) matches

@@ -1,7 +1,6 @@
 -- The tree of a plan over the parts of machines.
-use Rattle.std.specs.Prelude.{ℕ, ◌+◌, List, [], ◌∷◌, length, replicate, slice_get, slice_index, Option, Some, None}
-use Rattle.std.specs.Option.{option_map_or}
-use Rattle.match_context.specs.Tree.{Item, Tree}
+use Rattle.std.specs.Prelude.{ℕ, List, [], length, replicate, slice_get, slice_index, Option, Some, None}
+use Rattle.match_context.specs.Tree.{Tree}
 use Rattle.match_context.specs.declared.context.Context.{Context}
 use Rattle.partition.specs.Parts.{MachinePart}
 use Rattle.typed_expr.specs.declared.query.Query.{Query}

@@ -1,5 +1,5 @@
 -- The assignments that a plan's moves lead to along a graph.
-use Rattle.std.specs.Prelude.{◌≡◌, ℕ, ◌<◌, ◌==◌, ◌&&◌, Bool, true, false, List, [], ◌∷◌, length, filter, flat_map, nat_lt, replicate, slice_get, slice_index, slice_set, Option, Some, None}
+use Rattle.std.specs.Prelude.{ℕ, ◌==◌, Bool, List, [], ◌∷◌, length, filter, flat_map, replicate, slice_index, slice_set}
 use Rattle.std.specs.Prelude.{if◌then◌else◌}
 use Rattle.std.specs.List.{range_with_len}
 use Rattle.graph_tables.specs.Graph.{Edge, PropertyGraph}

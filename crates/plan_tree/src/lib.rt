@@ -7,8 +7,9 @@
 //!
 //! Its laws (specs/Laws.antt): moves that bind each variable and put each test lead to each match once
 //! (`MovesLeadToAll`); whoever owns the vertices and however many machines there are, the leaves of a plan's tree stand for
-//! the matches of its query, each for one, with their captured values (`LeavesAreAll`); and such a tree keeps the promises
-//! of a staged tree (`PlansMakeTrees`).
+//! the matches of its query, each for one, with their captured values (`LeavesAreAll`); rows that are these leaves in any
+//! order are what `collect` takes (`RowsAreAll`), where each value of the graph has the kind that the query expects
+//! (`HasKinds`); and such a tree keeps the promises of a staged tree (`PlansMakeTrees`).
 #![tactic(auto)]
 
 pub mod laws;

@@ -1,3 +1,4 @@
+//! The words with which the process was begun.
 use adfs_base::NoMemory;
 use std::alloc::Global;
 use std::env::FillError;

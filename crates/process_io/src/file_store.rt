@@ -1,3 +1,4 @@
+//! Real files, as a store.
 ghost use Rattle.std.specs.Prelude.{◌≡◌, ◌≢◌, ◌≤◌, ◌+◌, [], None, length};
 
 use adfs_base::{Loaded, Store};

@@ -1,3 +1,4 @@
+//! A stream of the process, as a sink.
 ghost use Rattle.std.specs.Prelude.{None};
 
 use adfs_base::{Put, Sink};

@@ -1,4 +1,4 @@
-// Real files by pieces, and streams that fail.
+//! Real files by pieces, and streams that fail.
 use super::*;
 use adfs_base::{Loaded, Put, Sink, Store};
 use std::io::Write;

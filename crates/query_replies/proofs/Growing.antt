@@ -14,11 +14,14 @@ use Rattle.typed_expr.specs.Faults.{first_of}
 use Rattle.typed_expr.specs.Scope.{scope_of}
 use Rattle.typed_expr.specs.Typed.{all_literals, faults_of, query_of, typed, typed_by}
 use Rattle.typed_expr.specs.declared.fault.TypeFault.{TypeFault}
-use Rattle.typed_expr.specs.declared.query.Query.{Query}
+use Rattle.typed_query.specs.declared.query.Query.{Query}
 use Rattle.typed_expr.specs.declared.scope.Scope.{Scope}
 use Rattle.value_text.specs.Texts.{Kept, with_text}
 use Rattle.value_text.specs.Valid.{IsValid}
 use Rattle.value_text.proofs.Staying.{values_stay}
+use Rattle.query_replies.specs.Asked.{IsMeant}
+use Rattle.query_replies.specs.declared.answers.Asked.{Asked}
+use Rattle.query_replies.specs.declared.answers.Asked.TheVariants.{Plan, Rows}
 
 -- ---- texts with those of literals
 
@@ -64,3 +67,9 @@ pub shown_after : (schema : SchemaLists) (old : List (List ℕ)) (ast : Ast) (qu
 shown_after schema old ast query new graph is shown =
     let stay = typed-kept schema old ast query new is in
     record { vertices_shown = elements old new stay graph.vertices shown.vertices_shown; edges_shown = elements old new stay (without_ends graph.edges) shown.edges_shown }
+
+-- so what is asked rests on what means something
+pub meant_after : (schema : SchemaLists) (old : List (List ℕ)) (ast : Ast) (query : Query) (new : List (List ℕ)) (asked : Asked)
+    → typed schema old ast ≡ Ok (query, new) → IsMeant old asked → IsMeant new asked
+meant_after schema old ast query new (Rows graph) is shown = shown_after schema old ast query new graph.now is shown
+meant_after schema old ast query new Plan is shown = tt

@@ -4,7 +4,9 @@ use Rattle.pgql_lexer.specs.declared.token.LexFault.TheVariants as lex
 use Rattle.pgql_syntax.specs.declared.tree.SyntaxFault.{SyntaxFault}
 use Rattle.pgql_syntax.specs.declared.tree.SyntaxFault.TheVariants as syntax
 use Rattle.result_collect.specs.declared.refusal.Refusal.{Refusal}
-use Rattle.result_collect.specs.declared.refusal.Refusal.TheVariants.{At}
+use Rattle.result_collect.specs.declared.refusal.Refusal.TheVariants.{At, TooWide}
+use Rattle.stage_plan.specs.declared.fault.PlanFault.{PlanFault}
+use Rattle.stage_plan.specs.declared.fault.PlanFault.TheVariants as planning
 use Rattle.typed_expr.specs.declared.fault.TypeFault.{TypeFault}
 use Rattle.typed_expr.specs.declared.fault.TypeFault.TheVariants as typing
 
@@ -33,3 +35,7 @@ refusal_of_typing (typing.VariableKind at) = At 46 at
 refusal_of_typing (typing.KeyNotSelected at) = At 48 at
 refusal_of_typing (typing.BadDate at) = At 49 at
 refusal_of_typing typing.NoMemory = At 0 0
+
+abbrev pub refusal_of_planning : PlanFault → Refusal
+refusal_of_planning (planning.TooWide words) = TooWide words
+refusal_of_planning planning.NoMemory = At 0 0

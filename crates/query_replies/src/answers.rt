@@ -1,13 +1,15 @@
-ghost use Rattle.std.specs.Prelude.{◌≡◌, ◌+◌, ◌-◌, ◌<◌, ◌≤◌, ◌↔◌, ◌^◌, ◌||◌, ℕ, true, false, List, IfOk, OnOk, All, length, map};
+ghost use Rattle.std.specs.Prelude.{◌≡◌, ◌+◌, ◌-◌, ◌<◌, ◌≤◌, ◌↔◌, ◌^◌, ◌||◌, ℕ, true, false, List, IfOk, OnOk, All, is_err, length, map};
 ghost use Rattle.pgql_lexer.specs.Places.{LiesBetween};
-ghost use Rattle.pgql_meaning.specs.Answer.{answer_of};
 ghost use Rattle.pgql_meaning.specs.Shown.{HasMeaning, HasShown};
 ghost use Rattle.pgql_syntax.specs.Places.{IsTree};
-ghost use Rattle.result_collect.specs.Refusals.{refusal_text};
-ghost use Rattle.result_collect.specs.Replies.{reply_text};
+ghost use Rattle.result_collect.specs.Refusals.{IsNamed, refusal_text};
+ghost use Rattle.stage_plan.specs.PlanText.{plan_text};
+ghost use Rattle.stage_plan.specs.Plans.{plan_of, planned};
 ghost use Rattle.typed_expr.specs.Typed.{all_literals};
+ghost use Rattle.typed_expr.specs.WellFormed.{IsWellFormed};
 ghost use Rattle.query_replies.specs.Replies as spec;
-ghost use Rattle.query_replies.specs.Replies.{AreReplies, IsReply};
+ghost use Rattle.query_replies.specs.Asked.{IsMeant, answering};
+ghost use Rattle.query_replies.specs.Replies.{AreAnswers, ArePlans, AreReplies, IsAnswer};
 
 use crate::faults::{refusal_of_syntax, refusal_of_typing};
 use adfs_base::NoMemory;
@@ -15,8 +17,11 @@ use graph_tables::{Graph, Schema};
 use pgql_meaning::answer_plain;
 use pgql_syntax::{Ast, parse};
 use result_collect::{Refusal, put_refusal, put_reply};
+use stage_plan::{Plan, PlanFault, plan_query, put_plan};
 use std::alloc::Global;
-use typed_expr::{Query, literal_count, type_query};
+use typed_expr::laws::trees_have_paths;
+use typed_expr::{literal_count, type_query};
+use typed_query::Query;
 use value_text::Texts;
 
 /// A reply, or the line of a refusal.
@@ -34,6 +39,7 @@ pub struct Replies {
 }
 
 fn refused(alloc: Global, number: u32, refusal: Refusal) -> Result<Reply, NoMemory>
+    requires { IsNamed refusal }
     ensures text { IfOk result (λ reply. reply.text.items ≡ refusal_text number refusal) }
     ensures refused { IfOk result (λ reply. reply.refused ≡ true) }
 {
@@ -45,25 +51,92 @@ fn refused(alloc: Global, number: u32, refusal: Refusal) -> Result<Reply, NoMemo
     })
 }
 
-fn answered(
+/// What is asked of each query.
+#[derive(Clone, Copy)]
+pub(crate) enum Asked<'a> {
+    /// The rows of its answer over the graph.
+    Rows(&'a Graph),
+    Plan,
+}
+
+fn answered(text: Vec<u8>) -> Reply
+    ensures text { result.text.items ≡ text.items }
+    ensures refused { result.refused ≡ false }
+{
+    Reply {
+        text,
+        refused: false,
+    }
+}
+
+// The rows of a query.
+fn rows_text(
     alloc: Global,
     graph: &Graph,
     texts: &Texts,
     number: u32,
     query: &Query,
-) -> Result<Reply, NoMemory>
+) -> Result<Vec<u8>, NoMemory>
     requires shown { HasShown texts.now graph.now }
     requires meaning { HasMeaning texts.now query.now }
-    ensures text { IfOk result (λ reply. reply.text.items ≡ reply_text texts.now number query.now (answer_of texts.now graph.now query.now)) }
-    ensures refused { IfOk result (λ reply. reply.refused ≡ false) }
+    ensures { IfOk result (λ text. text.items ≡ spec.rows_over graph.now texts.now number query.now) }
 {
     let rows = answer_plain(alloc, graph, texts, query)?;
     let mut text = Vec::new(alloc);
     put_reply(number, query, &rows, texts, &mut text)?;
-    Ok(Reply {
-        text,
-        refused: false,
-    })
+    Ok(text)
+}
+
+fn plan_text(alloc: Global, number: u32, plan: &Plan, query: &Query) -> Result<Vec<u8>, NoMemory>
+    ensures { IfOk result (λ text. text.items ≡ plan_text number plan.now query.now) }
+{
+    let mut text = Vec::new(alloc);
+    put_plan(alloc, number, plan, query, &mut text)?;
+    Ok(text)
+}
+
+// What is asked of a query that has this plan.
+fn asked_text(
+    alloc: Global,
+    asked: Asked<'_>,
+    texts: &Texts,
+    number: u32,
+    query: &Query,
+    plan: &Plan,
+) -> Result<Vec<u8>, NoMemory>
+    requires shown { IsMeant texts.now asked }
+    requires meaning { HasMeaning texts.now query.now }
+    requires plan { plan.now ≡ plan_of query.now }
+    ensures { IfOk result (λ text. text.items ≡ answering asked.entry texts.now number query.now) }
+{
+    match asked {
+        Asked::Rows(graph) => rows_text(alloc, graph, texts, number, query),
+        Asked::Plan => plan_text(alloc, number, plan, query),
+    }
+}
+
+// What a query is answered.
+fn reply_to_query(
+    alloc: Global,
+    asked: Asked<'_>,
+    texts: &Texts,
+    number: u32,
+    query: &Query,
+) -> Result<Reply, NoMemory>
+    requires shown { IsMeant texts.now asked }
+    requires meaning { HasMeaning texts.now query.now }
+    requires well { IsWellFormed query.now }
+    ensures text { IfOk result (λ reply. reply.text.items ≡ spec.text_by (answering asked.entry texts.now number query.now) number (planned query.now)) }
+    ensures refused { IfOk result (λ reply. reply.refused ≡ is_err (planned query.now)) }
+{
+    match plan_query(alloc, query) {
+        Ok(plan) => {
+            let text = asked_text(alloc, asked, texts, number, query, &plan)?;
+            Ok(answered(text))
+        }
+        Err(PlanFault::TooWide(words)) => refused(alloc, number, Refusal::TooWide(words)),
+        Err(PlanFault::NoMemory) => Err(NoMemory),
+    }
 }
 
 // Whether the literals of a tree find numbers. They always do within the limits of graphs and files.
@@ -76,21 +149,22 @@ fn has_numbers(texts: &Texts, ast: &Ast) -> bool
 // What the tree of a text is answered.
 fn reply_to_tree(
     alloc: Global,
-    graph: &Graph,
+    asked: Asked<'_>,
     schema: &Schema,
     texts: &mut Texts,
     number: u32,
     ast: &Ast,
 ) -> Result<Reply, NoMemory>
-    requires { HasShown texts.old graph.now }
-    ensures reply { (base : ℕ) (text : List ℕ) → IsTree 64 base text ast.now → IfOk result (λ reply. IsReply graph.now schema.now number base text texts.old texts.new reply.text.items reply.refused) }
-    ensures shown { OnOk result (HasShown texts.new graph.now) }
+    requires shown { IsMeant texts.old asked }
+    requires paths { 0 < length ast.now.paths }
+    ensures reply { (base : ℕ) (text : List ℕ) → IsTree 64 base text ast.now → IfOk result (λ reply. IsAnswer (answering asked.entry) schema.now number base text texts.old texts.new reply.text.items reply.refused) }
+    ensures shown { OnOk result (IsMeant texts.new asked.entry) }
 {
     if !has_numbers(texts, ast) {
         return Err(NoMemory);
     }
     match type_query(alloc, ast, schema, texts) {
-        Ok(query) => answered(alloc, graph, texts, number, &query),
+        Ok(query) => reply_to_query(alloc, asked, texts, number, &query),
         Err(fault) => refused(alloc, number, refusal_of_typing(fault)?),
     }
 }
@@ -98,7 +172,7 @@ fn reply_to_tree(
 // What the query of this number is answered, whose first byte stands at `base` in its file.
 fn reply_to_text(
     alloc: Global,
-    graph: &Graph,
+    asked: Asked<'_>,
     schema: &Schema,
     texts: &mut Texts,
     number: u32,
@@ -106,12 +180,16 @@ fn reply_to_text(
     base: u32,
 ) -> Result<Reply, NoMemory>
     requires short { base + length text.now < 2 ^ 32 }
-    requires shown { HasShown texts.old graph.now }
-    ensures reply { IfOk result (λ reply. IsReply graph.now schema.now number base text.now texts.old texts.new reply.text.items reply.refused) }
-    ensures shown { OnOk result (HasShown texts.new graph.now) }
+    requires shown { IsMeant texts.old asked }
+    ensures reply { IfOk result (λ reply. IsAnswer (answering asked.entry) schema.now number base text.now texts.old texts.new reply.text.items reply.refused) }
+    ensures shown { OnOk result (IsMeant texts.new asked.entry) }
 {
     match parse(alloc, text, base) {
-        Ok(ast) => reply_to_tree(alloc, graph, schema, texts, number, &ast),
+        Ok(ast) => {
+            // What this promises says that the query is well-formed.
+            trees_have_paths();
+            reply_to_tree(alloc, asked, schema, texts, number, &ast)
+        }
         Err(fault) => refused(alloc, number, refusal_of_syntax(fault)?),
     }
 }
@@ -130,6 +208,39 @@ fn either(a: bool, b: bool) -> bool
     a || b
 }
 
+// What is asked of the queries of a file that stand at these places.
+fn replies_to_all(
+    alloc: Global,
+    asked: Asked<'_>,
+    schema: &Schema,
+    texts: &mut Texts,
+    file: &[u8],
+    pieces: &[(u32, u32)],
+) -> Result<Replies, NoMemory>
+    requires short { length file.now ≤ 268435456 }
+    requires few { length pieces.now ≤ 4096 }
+    requires within { All (LiesBetween 0 (length file.now)) pieces.now }
+    requires shown { IsMeant texts.old asked }
+    ensures { IfOk result (λ replies. AreAnswers (answering asked.entry) schema.now file.now 1 pieces.now texts.old texts.new (map (λ text. text.items) replies.texts.items) replies.refused) }
+{
+    let mut found = Vec::new(alloc);
+    let mut one_refused = false;
+    let mut number: u32 = 1;
+    let mut rest = pieces;
+    while let Some((piece, others)) = rest.split_first() {
+        let text = piece_of(file, piece);
+        let reply = reply_to_text(alloc, asked, schema, texts, number, text, piece.0)?;
+        one_refused = either(one_refused, reply.refused);
+        found.push(reply.text)?;
+        number += 1;
+        rest = others;
+    }
+    Ok(Replies {
+        texts: found,
+        refused: one_refused,
+    })
+}
+
 /// What the queries of a file are answered, which stand at these places: exactly `AreReplies`, where the first
 /// has the number 1. The texts get those of the queries' literals.
 pub fn answer_queries(
@@ -146,20 +257,22 @@ pub fn answer_queries(
     requires shown { HasShown texts.old graph.now }
     ensures { IfOk result (λ replies. AreReplies graph.now schema.now file.now 1 pieces.now texts.old texts.new (map (λ text. text.items) replies.texts.items) replies.refused) }
 {
-    let mut found = Vec::new(alloc);
-    let mut one_refused = false;
-    let mut number: u32 = 1;
-    let mut rest = pieces;
-    while let Some((piece, others)) = rest.split_first() {
-        let text = piece_of(file, piece);
-        let reply = reply_to_text(alloc, graph, schema, texts, number, text, piece.0)?;
-        one_refused = either(one_refused, reply.refused);
-        found.push(reply.text)?;
-        number += 1;
-        rest = others;
-    }
-    Ok(Replies {
-        texts: found,
-        refused: one_refused,
-    })
+    replies_to_all(alloc, Asked::Rows(graph), schema, texts, file, pieces)
+}
+
+/// The plans of the queries of a file, which stand at these places: exactly `ArePlans`, where the first has the
+/// number 1. The texts get those of the queries' literals.
+pub fn plan_queries(
+    alloc: Global,
+    schema: &Schema,
+    texts: &mut Texts,
+    file: &[u8],
+    pieces: &[(u32, u32)],
+) -> Result<Replies, NoMemory>
+    requires short { length file.now ≤ 268435456 }
+    requires few { length pieces.now ≤ 4096 }
+    requires within { All (LiesBetween 0 (length file.now)) pieces.now }
+    ensures { IfOk result (λ plans. ArePlans schema.now file.now 1 pieces.now texts.old texts.new (map (λ text. text.items) plans.texts.items) plans.refused) }
+{
+    replies_to_all(alloc, Asked::Plan, schema, texts, file, pieces)
 }

@@ -1,6 +1,7 @@
 //! Why a query isn't answered, by number and place.
 ghost use Rattle.std.specs.Prelude.{◌≡◌, ◌≢◌, IfOk, IsOk, Ok};
 ghost use Rattle.query_replies.specs.Faults as spec;
+ghost use Rattle.result_collect.specs.Refusals.{IsNamed};
 
 use adfs_base::NoMemory;
 use pgql_lexer::LexFault;
@@ -16,6 +17,7 @@ fn at(code: u32, at: u32) -> Result<Refusal, NoMemory>
 
 fn refusal_of_lex(fault: LexFault) -> Result<Refusal, NoMemory>
     ensures ok { IfOk result (λ refusal. refusal ≡ spec.refusal_of_lex fault) }
+    ensures named { IfOk result IsNamed }
     ensures memory { IfOk result (λ refusal. fault ≢ LexFault.NoMemory) }
     ensures told { fault ≢ LexFault.NoMemory → IsOk result }
 {
@@ -31,6 +33,7 @@ fn refusal_of_lex(fault: LexFault) -> Result<Refusal, NoMemory>
 /// The refusal of a text that has no tree. `NoMemory` where memory was wanting, and only there.
 pub fn refusal_of_syntax(fault: SyntaxFault) -> Result<Refusal, NoMemory>
     ensures ok { IfOk result (λ refusal. refusal ≡ spec.refusal_of_syntax fault) }
+    ensures named { IfOk result IsNamed }
     ensures memory { IfOk result (λ refusal. fault ≢ SyntaxFault.NoMemory) }
     ensures told { fault ≢ SyntaxFault.NoMemory → fault ≢ SyntaxFault.Lex LexFault.NoMemory → IsOk result }
 {
@@ -45,6 +48,7 @@ pub fn refusal_of_syntax(fault: SyntaxFault) -> Result<Refusal, NoMemory>
 /// The refusal of a tree that means nothing. `NoMemory` where memory was wanting, and only there.
 pub fn refusal_of_typing(fault: TypeFault) -> Result<Refusal, NoMemory>
     ensures ok { IfOk result (λ refusal. refusal ≡ spec.refusal_of_typing fault) }
+    ensures named { IfOk result IsNamed }
     ensures memory { IfOk result (λ refusal. fault ≢ TypeFault.NoMemory) }
     ensures told { fault ≢ TypeFault.NoMemory → IsOk result }
 {

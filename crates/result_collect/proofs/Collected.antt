@@ -10,8 +10,8 @@ use Rattle.pgql_meaning.specs.Answer.{all_matches, answer_of, arrangement_of, sh
 use Rattle.pgql_meaning.specs.Captured.{captured}
 use Rattle.pgql_meaning.specs.Shown.{HasMeaning, HasShown}
 use Rattle.pgql_meaning.proofs.AnyOrder.{answer_of-permuted}
-use Rattle.typed_expr.specs.WellFormed.{IsWellFormed}
-use Rattle.typed_expr.specs.declared.query.Query.{Query}
+use Rattle.typed_query.specs.WellFormed.{IsWellFormed}
+use Rattle.typed_query.specs.declared.query.Query.{Query}
 use Rattle.result_collect.specs.Contexts.{StandForEach, StandsFor, numbers_in, shown_in}
 
 module _ (texts : List (List ℕ)) (graph : PropertyGraph) (query : Query) where

@@ -11,10 +11,10 @@ use Rattle.match_context.specs.Words.{captured_in, number_in}
 use Rattle.match_context.specs.declared.context.Context.{Context}
 use Rattle.pgql_meaning.specs.Answer.{shown_by}
 use Rattle.pgql_meaning.specs.Captured.{captured}
-use Rattle.typed_expr.specs.declared.query.Capture.{Capture}
-use Rattle.typed_expr.specs.declared.query.Query.{Query}
-use Rattle.typed_expr.specs.declared.query.What.{What}
-use Rattle.typed_expr.specs.declared.query.What.TheVariants as what
+use Rattle.typed_query.specs.declared.query.Capture.{Capture}
+use Rattle.typed_query.specs.declared.query.Query.{Query}
+use Rattle.typed_query.specs.declared.query.What.{What}
+use Rattle.typed_query.specs.declared.query.What.TheVariants as what
 
 -- the kind of what is used of a variable
 abbrev pub kind_of : What → Kind

@@ -1,5 +1,5 @@
 -- The text of a refusal.
-use Rattle.std.specs.Prelude.{ℕ, ◌==◌, if◌then◌else◌, List, [], ◌∷◌, ◌++◌, codes, nat_lt}
+use Rattle.std.specs.Prelude.{ℕ, ◌==◌, ◌&&◌, ◌||◌, not, IsTrue, if◌then◌else◌, List, [], ◌∷◌, ◌++◌, codes, nat_le, nat_lt}
 use Rattle.std.specs.Fmt.{decimal}
 use Rattle.result_collect.specs.declared.refusal.Refusal.{Refusal}
 use Rattle.result_collect.specs.declared.refusal.Refusal.TheVariants.{At, TooWide, NeedsMore}
@@ -30,6 +30,12 @@ typing_name code =
 -- the name of a refusal's number
 abbrev pub name_of : ℕ → List ℕ
 name_of code = if nat_lt code 40 then syntax_name code else typing_name code
+
+-- It is a refusal of the table: one at a place has a number from 10 to 15, or from 40 to 49 and not 47. The names above are those of these numbers alone.
+abbrev pub IsNamed : Refusal → Type 0
+IsNamed (At code at) = IsTrue (nat_le 10 code && nat_le code 15 || nat_le 40 code && nat_le code 49 && not (code == 47))
+IsNamed (TooWide words) = Unit {0}
+IsNamed (NeedsMore need pool) = Unit {0}
 
 -- which query isn't answered
 abbrev pub refused : ℕ → List ℕ → List ℕ

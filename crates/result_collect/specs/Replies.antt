@@ -3,7 +3,7 @@ use Rattle.std.specs.Prelude.{◌≡◌, ℕ, List, [], ◌∷◌, ◌++◌, len
 use Rattle.std.specs.List.{flat_map}
 use Rattle.std.specs.Fmt.{decimal}
 use Rattle.adfs_base.specs.declared.value.Value.{Value}
-use Rattle.typed_expr.specs.declared.query.Query.{Query}
+use Rattle.typed_query.specs.declared.query.Query.{Query}
 use Rattle.value_text.specs.Shown.{shown, shown_text}
 
 -- cells with a comma between two of them

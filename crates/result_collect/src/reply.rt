@@ -1,3 +1,4 @@
+//! The text of a reply.
 ghost use Rattle.std.specs.Prelude.{◌≡◌, ◌++◌, ◌∷◌, [], OnOk, OnErr, length, map};
 ghost use Rattle.std.specs.Fmt.{decimal};
 ghost use Rattle.std.specs.List.{AllByRecursion, flat_map};
@@ -8,7 +9,7 @@ ghost use Rattle.pgql_meaning.specs.Shown.{AreShown};
 
 use adfs_base::{Name, NoMemory, Value};
 use answer_rows::Row;
-use typed_expr::{Expr, Query};
+use typed_query::{Expr, Query};
 use value_text::{Texts, put_text, put_value};
 
 #[tactic(auto, using(crate::proofs::Growing::grows_on, crate::proofs::Growing::grows_same))]
@@ -136,25 +137,33 @@ fn append_names_line(query: &Query, out: &mut Vec<u8>) -> Result<(), NoMemory>
 }
 
 #[tactic(auto, using(crate::proofs::Growing::grows_on, crate::proofs::Growing::grows_same))]
-fn append_head(number: u32, count: usize, out: &mut Vec<u8>) -> Result<(), NoMemory>
-    ensures ok { OnOk result (out.new.items ≡ out.old.items ++ head_text number count) }
-    ensures err { OnErr result (Grows out.old.items out.new.items) }
-{
-    out.extend_from_slice(b"query ")?;
-    append_number(number as u64, out)?;
-    out.extend_from_slice(b" rows ")?;
-    append_number(count as u64, out)?;
-    out.push(b'\n')?;
-    Ok(())
-}
-
-#[tactic(auto, using(crate::proofs::Growing::grows_on, crate::proofs::Growing::grows_same))]
 fn append_number(number: u64, out: &mut Vec<u8>) -> Result<(), NoMemory>
     ensures ok { OnOk result (out.new.items ≡ out.old.items ++ decimal number) }
     ensures err { OnErr result (Grows out.old.items out.new.items) }
 {
     let mut digits = itoa::Buffer::new();
     out.extend_from_slice(digits.format(number).as_bytes())?;
+    Ok(())
+}
+
+// A word and a number behind it.
+#[tactic(auto, using(crate::proofs::Growing::grows_on, crate::proofs::Growing::grows_same))]
+fn append_counted(word: &[u8], number: u64, out: &mut Vec<u8>) -> Result<(), NoMemory>
+    ensures ok { OnOk result (out.new.items ≡ out.old.items ++ (word.now ++ decimal number)) }
+    ensures err { OnErr result (Grows out.old.items out.new.items) }
+{
+    out.extend_from_slice(word)?;
+    append_number(number, out)
+}
+
+#[tactic(auto, using(crate::proofs::Growing::grows_on, crate::proofs::Growing::grows_same))]
+fn append_head(number: u32, count: usize, out: &mut Vec<u8>) -> Result<(), NoMemory>
+    ensures ok { OnOk result (out.new.items ≡ out.old.items ++ head_text number count) }
+    ensures err { OnErr result (Grows out.old.items out.new.items) }
+{
+    append_counted(b"query ", number as u64, out)?;
+    append_counted(b" rows ", count as u64, out)?;
+    out.push(b'\n')?;
     Ok(())
 }
 

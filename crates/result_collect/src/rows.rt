@@ -7,7 +7,7 @@ ghost use Rattle.match_context.specs.Words.{number_in};
 ghost use Rattle.graph_tables.specs.Graph.{PropertyGraph};
 ghost use Rattle.pgql_meaning.specs.Answer.{all_matches, answer_of, arrangement_of};
 ghost use Rattle.pgql_meaning.specs.Shown.{HasMeaning, HasShown};
-ghost use Rattle.typed_expr.specs.WellFormed.{IsWellFormed};
+ghost use Rattle.typed_query.specs.WellFormed.{IsWellFormed};
 ghost use Rattle.result_collect.specs.Contexts as contexts;
 ghost use Rattle.result_collect.specs.Contexts.{StandForEach};
 
@@ -17,7 +17,7 @@ use element_store::value_from;
 use match_context::Context;
 use pgql_meaning::{arrangement_of, shown};
 use std::alloc::Global;
-use typed_expr::{Capture, Query, What};
+use typed_query::{Capture, Query, What};
 use value_text::Texts;
 
 // The kind of what is used of a variable.
@@ -132,7 +132,7 @@ pub fn collect(
     ensures shown { IfOk result (λ found. found.items ≡ rows_of texts.now (arrangement_of query.now) (map (contexts.shown_in texts.now query.now) rows.items)) }
     ensures answer { IfOk result (λ found. (graph : PropertyGraph) (matches : List (List ℕ)) → StandForEach graph query.now rows.items matches → IsPermutation (all_matches texts.now graph query.now) matches → HasShown texts.now graph → HasMeaning texts.now query.now → IsWellFormed query.now → found.items ≡ answer_of texts.now graph query.now) }
 {
-    // That the texts differ is said by their count.
+    // Asked for its contract: it tells that no two texts are the same, on which the clause `answer` rests.
     let _ = texts.len();
     rows_shown(alloc, rows, query, texts)
 }

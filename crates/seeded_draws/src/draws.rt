@@ -1,3 +1,4 @@
+//! The numbers that follow from a seed.
 ghost use Rattle.std.specs.Prelude.{◌≡◌};
 ghost use Rattle.seeded_draws.specs.Draws.{draw, next_state};
 

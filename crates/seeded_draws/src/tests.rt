@@ -1,3 +1,4 @@
+//! Draws that are known from outside.
 use super::*;
 use std::test::Fail;
 

@@ -1,3 +1,4 @@
+//! Sorting, in place.
 ghost use Rattle.std.specs.Prelude.{◌≡◌, OnOk, OnErr};
 ghost use Rattle.sorted_lists.specs.Sorted.{SortsBy};
 

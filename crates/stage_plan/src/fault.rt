@@ -1,3 +1,5 @@
+//! Why a query has no plan.
+
 /// Why a query has no plan.
 #[derive(Clone, Copy, Debug, PartialEq, Eq)]
 pub enum PlanFault {

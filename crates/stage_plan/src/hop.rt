@@ -1,3 +1,5 @@
+//! The kinds of hops.
+
 /// What is done at a stage. A variable stands by its number.
 #[derive(Clone, Copy, Debug, PartialEq, Eq)]
 pub enum Hop {

@@ -1,3 +1,4 @@
+//! Short lists of numbers.
 ghost use Rattle.std.specs.Prelude.{◌≡◌, ◌++◌, ◌∷◌, [], OnOk, OnErr};
 
 use adfs_base::NoMemory;

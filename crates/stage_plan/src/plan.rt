@@ -1,3 +1,4 @@
+//! From a query to its plan.
 ghost use Rattle.std.specs.Prelude.{◌≡◌, ◌+◌, ◌<◌, ◌≤◌, ◌++◌, ◌^◌, ◌-◌, IfOk, IfSome, Ok, Err, length};
 ghost use Rattle.adfs_base.specs.declared.limits.TheConstants.{CONTEXT_WORDS, MOST_STAGES};
 ghost use Rattle.typed_expr.specs.WellFormed.{IsWellFormed};

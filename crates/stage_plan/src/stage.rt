@@ -1,3 +1,4 @@
+//! A stage, and what becomes known at it.
 use crate::hop::Hop;
 use crate::numbers::Numbers;
 

@@ -1,3 +1,4 @@
+//! A worker's marks on the words of the stage that closes next.
 ghost use Rattle.std.specs.Prelude.{◌≡◌, ◌≤◌, ◌<◌, false, IfSome, not, length, replicate};
 ghost use Rattle.std.specs.List.{position, list_all};
 ghost use Rattle.stage_termination.specs.Marks.{word_at};

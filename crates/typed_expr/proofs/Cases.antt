@@ -17,56 +17,8 @@ use Rattle.typed_expr.specs.Meaning.{captured, date_value, meant, meant_of}
 use Rattle.pattern_scope.specs.Names.{variable_of}
 use Rattle.graph_tables.specs.Properties.{SchemaLists}
 use Rattle.typed_expr.specs.Typed.{alone, alone_of}
-use Rattle.typed_expr.specs.Uses.{literals, literals_of, property_use, use_of, uses, uses_of}
-use Rattle.typed_expr.proofs.AstFolds.{fold-Int, fold-Text, fold-Date, fold-Bool, fold-Name, fold-Property, fold-Id, fold-Label, fold-Not, fold-Neg, fold-IsNull, fold-Binary}
-
-pub literals-Int : (whole : AstExpr) (number : ℤ) (at : ℕ) → whole ≡ ast.Int number at → literals whole ≡ []
-unfolding literals
-literals-Int whole number at is = fold-Int (List (List ℕ)) literals_of whole number at is
-
-pub literals-Text : (whole : AstExpr) (content : List ℕ) (at : ℕ) → whole ≡ ast.Text content at → literals whole ≡ content ∷ []
-unfolding literals
-literals-Text whole content at is = fold-Text (List (List ℕ)) literals_of whole content at is
-
-pub literals-Date : (whole : AstExpr) (content : List ℕ) (at : ℕ) → whole ≡ ast.Date content at → literals whole ≡ []
-unfolding literals
-literals-Date whole content at is = fold-Date (List (List ℕ)) literals_of whole content at is
-
-pub literals-Bool : (whole : AstExpr) (truth : Bool) (at : ℕ) → whole ≡ ast.Bool truth at → literals whole ≡ []
-unfolding literals
-literals-Bool whole truth at is = fold-Bool (List (List ℕ)) literals_of whole truth at is
-
-pub literals-Name : (whole : AstExpr) (name : List ℕ) (at : ℕ) → whole ≡ ast.Name name at → literals whole ≡ []
-unfolding literals
-literals-Name whole name at is = fold-Name (List (List ℕ)) literals_of whole name at is
-
-pub literals-Property : (whole : AstExpr) (variable property : List ℕ) (at : ℕ) → whole ≡ ast.Property variable property at → literals whole ≡ []
-unfolding literals
-literals-Property whole variable property at is = fold-Property (List (List ℕ)) literals_of whole variable property at is
-
-pub literals-Id : (whole : AstExpr) (variable : Placed) (at : ℕ) → whole ≡ ast.Id variable at → literals whole ≡ []
-unfolding literals
-literals-Id whole variable at is = fold-Id (List (List ℕ)) literals_of whole variable at is
-
-pub literals-Label : (whole : AstExpr) (variable : Placed) (at : ℕ) → whole ≡ ast.Label variable at → literals whole ≡ []
-unfolding literals
-literals-Label whole variable at is = fold-Label (List (List ℕ)) literals_of whole variable at is
-
-pub literals-Not : (whole : AstExpr) (inside : AstExpr) (at : ℕ) → whole ≡ ast.Not inside at → literals whole ≡ literals inside
-unfolding literals
-literals-Not whole inside at is = fold-Not (List (List ℕ)) literals_of whole inside at is
-
-pub literals-Neg : (whole : AstExpr) (inside : AstExpr) (at : ℕ) → whole ≡ ast.Neg inside at → literals whole ≡ literals inside
-unfolding literals
-literals-Neg whole inside at is = fold-Neg (List (List ℕ)) literals_of whole inside at is
-
-pub literals-IsNull : (whole : AstExpr) (inside : AstExpr) (negated : Bool) (at : ℕ) → whole ≡ ast.IsNull inside negated at → literals whole ≡ literals inside
-unfolding literals
-literals-IsNull whole inside negated at is = fold-IsNull (List (List ℕ)) literals_of whole inside negated at is
-
-pub literals-Binary : (whole : AstExpr) (op : Op) (left right : AstExpr) (at : ℕ) → whole ≡ ast.Binary op left right at → literals whole ≡ literals left ++ literals right
-unfolding literals
-literals-Binary whole op left right at is = fold-Binary (List (List ℕ)) literals_of whole op left right at is
+use Rattle.typed_expr.specs.Uses.{property_use, use_of, uses, uses_of}
+use Rattle.literal_texts.proofs.AstFolds.{fold-Int, fold-Text, fold-Date, fold-Bool, fold-Name, fold-Property, fold-Id, fold-Label, fold-Not, fold-Neg, fold-IsNull, fold-Binary}
 
 pub uses-Int : (schema : SchemaLists) (variables : List Declared) (whole : AstExpr) (number : ℤ) (at : ℕ) → whole ≡ ast.Int number at → uses schema variables whole ≡ []
 unfolding uses

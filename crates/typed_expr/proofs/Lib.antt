@@ -1,5 +1,4 @@
 mod AstByParts
-mod AstFolds
 mod Cases
 mod Columns
 mod Conjuncts
@@ -13,6 +12,7 @@ mod Outcomes
 pub use Rattle.typed_query.proofs.Parts
 mod Queries
 mod SameLaw
+mod SameUses
 mod Sames
 mod Scopes
 mod Trees

@@ -1,6 +1,7 @@
 -- What holds of the meaning of each expression: its captures are there and keep to the schema, its constants are
 -- valid, and it doesn't depend on places.
 use Rattle.std.proofs.Common.{◌≡◌, ◌∙◌, refl, sym, ap, subst, ℕ, ℤ, ◌+◌, ◌<◌, Bool, true, false, ◌&&◌, List, [], ◌∷◌, ◌++◌, append_assoc, length, map, Option, Some, None, arith}
+use Rattle.std.specs.Prelude.{◌==◌}
 use Rattle.std.specs.List.{AllByRecursion, cons_option, position_or_len, slice_get}
 use Rattle.std.specs.Option.{option_map}
 use Rattle.std.specs.Str.{bytes_eq}
@@ -21,7 +22,6 @@ use Rattle.value_text.specs.Valid.{IsValid}
 use Rattle.typed_query.specs.declared.expr.Expr.{Expr}
 use Rattle.typed_query.specs.declared.expr.Expr.TheVariants as expr
 use Rattle.typed_query.specs.declared.query.Capture.{Capture}
-use Rattle.typed_query.specs.declared.query.What.{What}
 use Rattle.typed_query.specs.declared.query.What.TheVariants as what
 use Rattle.pattern_scope.specs.declared.scope.Declared.{Declared}
 use Rattle.typed_expr.specs.Captured.{HasItsKind, KeepsKind}
@@ -29,9 +29,10 @@ use Rattle.typed_expr.specs.Kinds.{property_in}
 use Rattle.typed_expr.specs.Meaning.{captured, date_value, meant}
 use Rattle.pattern_scope.specs.Names.{variable_of}
 use Rattle.typed_query.specs.Parts.{HasCapturesBelow, HasValidConstants}
-use Rattle.typed_expr.specs.Uses.{literals, property_of_variable, property_use, same_use, same_what, use_of, uses}
+use Rattle.typed_expr.specs.Uses.{literals, property_of_variable, property_use, same_use, part_of, use_of, uses}
 use Rattle.pattern_scope.proofs.Added.{IsIn, all-join, all-split, position-within}
 use Rattle.typed_expr.proofs.AstByParts.{by_parts}
+use Rattle.literal_texts.proofs.Cases as literal
 use Rattle.typed_expr.proofs.Cases as cases
 use Rattle.typed_expr.proofs.Days.{date_is_day}
 use Rattle.typed_expr.proofs.Lists.{from_zero}
@@ -64,12 +65,7 @@ property-kept schema false name found is = property-found [] schema.vertex name 
 property-kept schema true name found is = property-found [] schema.edge name found is
 
 pub use-itself : (a : Capture) → same_use a a ≡ true
-use-itself a = ap (λ t. t && same_what a.what a.what) (eq-eqb a.variable a.variable refl) ∙ of_what a.what
-  where
-    of_what : (w : What) → same_what w w ≡ true
-    of_what (what.Property number kind) = eq-eqb number number refl
-    of_what what.Id = refl
-    of_what what.Label = refl
+use-itself a = ap (λ t. t && (part_of a.what == part_of a.what)) (eq-eqb a.variable a.variable refl) ∙ eq-eqb (part_of a.what) (part_of a.what) refl
 
 pub text-itself : (text : List ℕ) → bytes_eq text text ≡ true
 text-itself text = (bytes_eq-Decides text text).1 refl
@@ -227,7 +223,7 @@ module _ (schema : SchemaLists) (variables : List Declared) where
       int = λ number at all. valid (ast.Int number at) (cases.meant-Int _ _ _ _ _ number at refl) (parts.valid-Constant (value.Int number) tt);
       text = λ content at all.
           valid (ast.Text content at) (cases.meant-Text _ _ _ _ _ content at refl)
-          (parts.valid-Constant (value.Text (number_of texts content)) (position-within (bytes_eq content) texts (written (ast.Text content at) (cases.literals-Text _ content at refl) all).0));
+          (parts.valid-Constant (value.Text (number_of texts content)) (position-within (bytes_eq content) texts (written (ast.Text content at) (literal.literals-Text _ content at refl) all).0));
       date = λ content at all.
           valid (ast.Date content at) (cases.meant-Date _ _ _ _ _ content at refl)
           (parts.valid-Constant (date_value (date_cell content)) (day-valid (date_cell content) (date_is_day content)));
@@ -244,15 +240,15 @@ module _ (schema : SchemaLists) (variables : List Declared) where
           (captured-valid (use_of what.Label (variable_of variables variable.name)));
       not = λ inside at within all.
           valid (ast.Not inside at) (cases.meant-Not _ _ _ _ _ inside at refl)
-          (parts.valid-Not (meant schema variables captures texts inside) (within (written (ast.Not inside at) (cases.literals-Not _ inside at refl) all)));
+          (parts.valid-Not (meant schema variables captures texts inside) (within (written (ast.Not inside at) (literal.literals-Not _ inside at refl) all)));
       neg = λ inside at within all.
           valid (ast.Neg inside at) (cases.meant-Neg _ _ _ _ _ inside at refl)
-          (parts.valid-Neg (meant schema variables captures texts inside) (within (written (ast.Neg inside at) (cases.literals-Neg _ inside at refl) all)));
+          (parts.valid-Neg (meant schema variables captures texts inside) (within (written (ast.Neg inside at) (literal.literals-Neg _ inside at refl) all)));
       is_null = λ inside negated at within all.
           valid (ast.IsNull inside negated at) (cases.meant-IsNull _ _ _ _ _ inside negated at refl)
-          (parts.valid-IsNull (meant schema variables captures texts inside) negated (within (written (ast.IsNull inside negated at) (cases.literals-IsNull _ inside negated at refl) all)));
+          (parts.valid-IsNull (meant schema variables captures texts inside) negated (within (written (ast.IsNull inside negated at) (literal.literals-IsNull _ inside negated at refl) all)));
       binary = λ op left right at first second all.
-          let both = all-split IsText (literals left) (literals right) (written (ast.Binary op left right at) (cases.literals-Binary _ op left right at refl) all) in
+          let both = all-split IsText (literals left) (literals right) (written (ast.Binary op left right at) (literal.literals-Binary _ op left right at refl) all) in
           valid (ast.Binary op left right at) (cases.meant-Binary _ _ _ _ _ op left right at refl)
           (parts.valid-Binary op (meant schema variables captures texts left) (meant schema variables captures texts right) (first both.0) (second both.1));
     })

@@ -6,7 +6,7 @@ use Rattle.pgql_tree.specs.declared.ast.AstExpr.{AstExpr, out-AstExpr}
 use Rattle.pgql_tree.specs.declared.ast.AstExpr.TheVariants as ast
 use Rattle.pgql_tree.specs.declared.ast.AstExpr.TheOpen.{AstExpr-F}
 use Rattle.typed_expr.specs.Same.{is_bool, is_binary, is_date, is_id, is_inside, is_int, is_label, is_name, is_null_test, is_property, is_text, neg_inside, not_inside, null_test_inside, same, same_of, sides}
-use Rattle.typed_expr.proofs.AstFolds.{fold-Binary, fold-Bool, fold-Date, fold-Id, fold-Int, fold-IsNull, fold-Label, fold-Name, fold-Neg, fold-Not, fold-Property, fold-Text}
+use Rattle.literal_texts.proofs.AstFolds.{fold-Binary, fold-Bool, fold-Date, fold-Id, fold-Int, fold-IsNull, fold-Label, fold-Name, fold-Neg, fold-Not, fold-Property, fold-Text}
 
 abbrev same_step : AstExpr-F (AstExpr → Bool) → AstExpr → Bool
 same_step parts other = same_of parts (out-AstExpr other)

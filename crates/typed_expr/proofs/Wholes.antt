@@ -1,7 +1,6 @@
 -- What all expressions of a query have, taken part by part.
-use Rattle.std.proofs.Common.{◌≡◌, ◌+◌, List, ◌++◌, length, Result, Ok, Err, sym, ap, ◌∙◌}
+use Rattle.std.proofs.Common.{◌≡◌, List, ◌++◌, Result, Ok, Err, sym, ap, ◌∙◌}
 use Rattle.std.specs.Prelude.{fold, flat_map, IfOk, OnOk}
-use Rattle.std.proofs.lemmas.List.{length-append}
 use Rattle.std.proofs.lemmas.List.Sums.{fold-append}
 use Rattle.pgql_tree.specs.declared.ast.Ast.{Ast}
 use Rattle.pgql_tree.specs.declared.ast.AstExpr.{AstExpr}
@@ -21,14 +20,6 @@ fold-of_all step f ast before selected tested all first second third =
     ∙ ap (λ b. fold step b keys) second
     ∙ ap (λ b. fold step (fold step b condition) keys) first
     ∙ sym (fold-append step before items (condition ++ keys) ∙ fold-append step (fold step before items) condition keys)
-
-pub length-of_all : {X : Type 0} (f : AstExpr → List X) (ast : Ast)
-    → length (of_all f ast) ≡ length (flat_map (λ item. f item.expr) ast.items) + (length (of_condition f ast.condition) + length (flat_map (λ key. f key.expr) ast.keys))
-length-of_all f ast =
-    let items = flat_map (λ item. f item.expr) ast.items in
-    let condition = of_condition f ast.condition in
-    let keys = flat_map (λ key. f key.expr) ast.keys in
-    length-append items (condition ++ keys) ∙ ap (λ n. length items + n) (length-append condition keys)
 
 -- what follows from a call's clause, where it succeeds
 pub on_ok : {T E P Q : Type 0} (answer : Result T E) → OnOk answer P → (P → Q) → OnOk answer Q

@@ -1,5 +1,5 @@
 -- What an expression uses: variables, and the texts of its literals, each in the order of the text.
-use Rattle.std.specs.Prelude.{ℕ, Bool, true, false, ◌==◌, ◌&&◌, if◌then◌else◌, List, [], ◌∷◌, ◌++◌, Option, Some, None}
+use Rattle.std.specs.Prelude.{ℕ, ◌+◌, Bool, ◌==◌, ◌&&◌, if◌then◌else◌, List, [], ◌∷◌, ◌++◌, Option, Some, None}
 use Rattle.std.specs.List.{list_any, cons_option}
 use Rattle.adfs_base.specs.declared.value.Kind.{Kind}
 use Rattle.pgql_tree.specs.declared.ast.AstExpr.{AstExpr}
@@ -15,14 +15,15 @@ use Rattle.typed_expr.specs.Kinds.{property_in}
 use Rattle.pattern_scope.specs.Names.{variable_of}
 use Rattle.graph_tables.specs.Properties.{SchemaLists}
 
-abbrev pub same_what : What → What → Bool
-same_what (what.Property number kind) (what.Property other kind') = number == other
-same_what what.Id what.Id = true
-same_what what.Label what.Label = true
-same_what a b = false
+-- what is used of a variable, as a number: its key, its label, or the property of a number
+abbrev pub part_of : What → ℕ
+part_of what.Id = 0
+part_of what.Label = 1
+part_of (what.Property number kind) = number + 2
 
+-- the same of one variable
 abbrev pub same_use : Capture → Capture → Bool
-same_use a b = (a.variable == b.variable) && same_what a.what b.what
+same_use a b = (a.variable == b.variable) && (part_of a.what == part_of b.what)
 
 -- `id(x)` and `label(x)`, where x is a variable
 abbrev pub use_of : What → Option (ℕ × Bool) → Option Capture

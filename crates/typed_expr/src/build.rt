@@ -3,6 +3,7 @@ ghost use Rattle.std.specs.Prelude.{◌≡◌, ◌++◌, ◌∷◌, [], IfOk, On
 ghost use Rattle.typed_expr.specs.Meaning as meaning;
 ghost use Rattle.typed_expr.specs.Typed as spec;
 
+use crate::capture_set::Captures;
 use crate::captures::add_captures;
 use crate::expr::Expr;
 use crate::items::{Columns, add_names, item_of};
@@ -259,17 +260,19 @@ fn fill(
     scope: &Scope,
     schema: &Schema,
     texts: &Texts,
+    captures: &mut Captures,
     query: &mut Query,
 ) -> Result<(), NoMemory>
-    requires { query.old ≡ record { variables = []; edges = []; captures = []; conjuncts = []; select = []; keys = []; distinct = ast.now.distinct; limit = ast.now.limit } }
+    requires captures { captures.old ≡ [] }
+    requires query { query.old ≡ record { variables = []; edges = []; captures = []; conjuncts = []; select = []; keys = []; distinct = ast.now.distinct; limit = ast.now.limit } }
     ensures { OnOk result (query.new ≡ spec.query_of schema.now ast.now scope.now texts.now) }
 {
-    add_captures(ast, &scope.variables, schema, &mut query.captures)?;
+    add_captures(ast, &scope.variables, schema, captures)?;
     let scene = Scene {
         alloc,
         variables: &scope.variables,
         schema,
-        captures: query.captures.as_slice(),
+        captures,
         texts,
     };
     add_expressions(
@@ -279,6 +282,7 @@ fn fill(
         &mut query.select,
         &mut query.keys,
     )?;
+    captures.put(&mut query.captures)?;
     add_variables(alloc, scope, &mut query.variables)?;
     add_edges(scope.edges.as_slice(), &mut query.edges)
 }
@@ -293,7 +297,8 @@ pub fn query_of(
 ) -> Result<Query, NoMemory>
     ensures { IfOk result (λ query. query ≡ spec.query_of schema.now ast.now scope.now texts.now) }
 {
+    let mut captures = Captures::new(alloc);
     let mut query = bare_query(alloc, ast);
-    fill(alloc, ast, scope, schema, texts, &mut query)?;
+    fill(alloc, ast, scope, schema, texts, &mut captures, &mut query)?;
     Ok(query)
 }

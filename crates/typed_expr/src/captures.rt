@@ -3,19 +3,18 @@ ghost use Rattle.std.specs.Prelude.{◌≡◌, OnOk, flat_map, fold};
 ghost use Rattle.typed_expr.specs.Typed as spec;
 ghost use Rattle.typed_expr.specs.Uses as uses;
 
-use crate::query::Capture;
+use crate::capture_set::Captures;
 use crate::uses::add_uses;
 use adfs_base::NoMemory;
 use graph_tables::Schema;
 use pattern_scope::declarations::Declarations;
 use pgql_tree::{Ast, AstExpr, Item, Key};
-use sqlite_items::Items;
 
 fn add_item_uses(
     items: &[Item],
     variables: &Declarations,
     schema: &Schema,
-    found: &mut Items<Capture>,
+    found: &mut Captures,
 ) -> Result<(), NoMemory>
     ensures { OnOk result (found.new ≡ fold uses.with_use found.old (flat_map (λ item. uses.uses schema.now variables.now item.expr) items.now)) }
 {
@@ -29,7 +28,7 @@ fn add_key_uses(
     keys: &[Key],
     variables: &Declarations,
     schema: &Schema,
-    found: &mut Items<Capture>,
+    found: &mut Captures,
 ) -> Result<(), NoMemory>
     ensures { OnOk result (found.new ≡ fold uses.with_use found.old (flat_map (λ key. uses.uses schema.now variables.now key.expr) keys.now)) }
 {
@@ -43,7 +42,7 @@ fn add_condition_uses(
     condition: &Option<AstExpr>,
     variables: &Declarations,
     schema: &Schema,
-    found: &mut Items<Capture>,
+    found: &mut Captures,
 ) -> Result<(), NoMemory>
     ensures { OnOk result (found.new ≡ fold uses.with_use found.old (spec.of_condition (uses.uses schema.now variables.now) condition.now)) }
 {
@@ -58,7 +57,7 @@ pub fn add_captures(
     ast: &Ast,
     variables: &Declarations,
     schema: &Schema,
-    found: &mut Items<Capture>,
+    found: &mut Captures,
 ) -> Result<(), NoMemory>
     ensures { OnOk result (found.new ≡ fold uses.with_use found.old (spec.of_all (uses.uses schema.now variables.now) ast.now)) }
 {

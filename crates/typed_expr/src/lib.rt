@@ -12,26 +12,25 @@
 #![tactic(auto)]
 
 mod build;
+mod capture_set;
 mod captures;
-mod count;
 pub mod expr;
-mod fault;
+pub mod fault;
 mod faults;
 mod items;
 mod kinds;
 pub mod laws;
-mod literals;
 mod meaning;
 mod printed;
 pub mod query;
-mod scope;
+pub mod scope;
 mod selected;
 mod typing;
 mod uses;
 
-pub use count::literal_count;
 pub use expr::Expr;
 pub use fault::TypeFault;
+pub use literal_texts::literal_count;
 pub use query::{Capture, EdgeJoin, Query, Variable, What};
 pub use typed_query::{passes, value};
 pub use typing::type_query;

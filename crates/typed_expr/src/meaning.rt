@@ -1,6 +1,5 @@
 //! What expressions mean, once it is known what their names stand for.
 ghost use Rattle.std.specs.Prelude.{◌≡◌, ◌++◌, ◌∷◌, [], IfOk, Ok, OnOk};
-ghost use Rattle.std.specs.List.{position_or_len};
 ghost use Rattle.value_text.specs.Dates.{date_cell};
 ghost use Rattle.value_text.specs.Texts.{number_of};
 ghost use Rattle.typed_expr.specs.Meaning as spec;
@@ -9,9 +8,10 @@ ghost use Rattle.typed_expr.specs.Uses as uses;
 ghost use Rattle.typed_query.specs.declared.expr.Expr.{Expr};
 ghost use Rattle.typed_query.specs.declared.expr.Expr.TheVariants as e;
 
+use crate::capture_set::Captures;
 use crate::expr::Expr;
 use crate::query::{Capture, What};
-use crate::uses::{property_use, same_use, use_of};
+use crate::uses::{property_use, use_of};
 use adfs_base::{Name, NoMemory, Value};
 use graph_tables::Schema;
 use pattern_scope::declarations::Declarations;
@@ -27,27 +27,16 @@ pub struct Scene<'a> {
     pub alloc: Global,
     pub variables: &'a Declarations,
     pub schema: &'a Schema,
-    pub captures: &'a [Capture],
+    pub captures: &'a Captures,
     pub texts: &'a Texts,
 }
 
-// The place of a use among the captures, or their count.
-fn place_of(captures: &[Capture], used: &Capture) -> usize
-    ensures { result ≡ position_or_len (uses.same_use used.now) captures.now }
-{
-    let mut place = 0;
-    while place < captures.len() && !same_use(used, &captures[place]) {
-        place += 1;
-    }
-    place
-}
-
-fn captured(captures: &[Capture], used: Option<Capture>) -> Result<Expr, NoMemory>
+fn captured(captures: &Captures, used: Option<Capture>) -> Result<Expr, NoMemory>
     ensures { IfOk result (λ expr. expr ≡ spec.captured captures.now used) }
 {
     match used {
         None => Ok(Expr::Constant(Value::Null)),
-        Some(used) => Ok(Expr::Captured(short(place_of(captures, &used))?)),
+        Some(used) => Ok(Expr::Captured(short(captures.place_of(used))?)),
     }
 }
 

@@ -8,10 +8,10 @@ ghost use Rattle.typed_query.specs.WellFormed.{IsWellFormed, expressions};
 
 use crate::build::query_of;
 use crate::faults::first_fault;
-use crate::literals::add_all_literals;
 use crate::query::Query;
 use adfs_base::NoMemory;
 use graph_tables::Schema;
+use literal_texts::add_all_literals;
 use pattern_scope::fault::TypeFault;
 use pattern_scope::scope::{Scope, scope_of};
 use pgql_tree::Ast;

@@ -1,9 +1,10 @@
 //! What expressions use of variables.
 ghost use Rattle.std.specs.Prelude.{◌≡◌, OnOk, IfOk, [], fold};
-ghost use Rattle.std.specs.List.{cons_option, list_any};
+ghost use Rattle.std.specs.List.{cons_option};
 ghost use Rattle.pattern_scope.specs.Names as names;
 ghost use Rattle.typed_expr.specs.Uses as spec;
 
+use crate::capture_set::Captures;
 use crate::kinds::property_in;
 use crate::query::{Capture, What};
 use adfs_base::{Name, NoMemory};
@@ -11,25 +12,6 @@ use graph_tables::Schema;
 use pattern_scope::declarations::Declarations;
 use pattern_scope::scope::short;
 use pgql_tree::AstExpr;
-use sqlite_items::Items;
-
-fn same_what(a: What, b: What) -> bool
-    ensures { result ≡ spec.same_what a b }
-{
-    match (a, b) {
-        (What::Property(a, _), What::Property(b, _)) => a == b,
-        (What::Id, What::Id) => true,
-        (What::Label, What::Label) => true,
-        _ => false,
-    }
-}
-
-/// Whether the two use the same of one variable.
-pub fn same_use(a: &Capture, b: &Capture) -> bool
-    ensures { result ≡ spec.same_use a.now b.now }
-{
-    a.variable == b.variable && same_what(a.what, b.what)
-}
 
 /// The use of a variable's key or label.
 pub fn use_of(
@@ -72,27 +54,14 @@ pub fn property_use(
     }
 }
 
-fn holds(captures: &[Capture], used: &Capture) -> bool
-    ensures { result ≡ list_any (spec.same_use used.now) captures.now }
-{
-    for capture in captures {
-        if same_use(used, capture) {
-            return true;
-        }
-    }
-    false
-}
-
-// Adds a use, if it is one and isn't there.
-fn add_use(found: &mut Items<Capture>, used: Option<Capture>) -> Result<(), NoMemory>
+// Adds a use, if it is one.
+fn add_use(found: &mut Captures, used: Option<Capture>) -> Result<(), NoMemory>
     ensures { OnOk result (found.new ≡ fold spec.with_use found.old (cons_option used [])) }
 {
-    if let Some(used) = used {
-        if !holds(found.as_slice(), &used) {
-            found.push(used)?;
-        }
+    match used {
+        Some(used) => found.add(used),
+        None => Ok(()),
     }
-    Ok(())
 }
 
 /// Adds the uses of variables in an expression, each once.
@@ -100,7 +69,7 @@ pub fn add_uses(
     expr: &AstExpr,
     variables: &Declarations,
     schema: &Schema,
-    found: &mut Items<Capture>,
+    found: &mut Captures,
 ) -> Result<(), NoMemory>
     ensures { OnOk result (found.new ≡ fold spec.with_use found.old (spec.uses schema.now variables.now expr.now)) }
 {

@@ -1,3 +1,4 @@
+//! Queries whose names give way to numbers, and what passes a condition.
 ghost use Rattle.std.specs.Prelude.{◌<◌, ◌^◌, length};
 
 use adfs_base::{MemStore, Name, NoMemory, Value};

@@ -1,6 +1,9 @@
 -- What an int cell says, against what `parse` says.
-use Rattle.std.proofs.Common.{◌≡◌, refl, arith, ◌<◌, ℕ, zero, suc, Bool, true, false, cond, ◌&&◌, ◌==◌, drop, ap, List, [], ◌∷◌, length, ℤ, pos, negsuc, Some, None, Ok, Err, Result, nat_lt, w64, IsUtf8}
+use Rattle.std.proofs.Common.{◌≡◌, ◌≤◌, lit<, refl, arith, ◌<◌, ◌+◌, ◌-◌, ◌*◌, ◌^◌, ◌++◌, take, slice_index, ℕ, zero, suc, Bool, true, false, cond, ◌&&◌, ◌==◌, drop, ap, List, [], ◌∷◌, length, ℤ, pos, negsuc, Some, None, Ok, Err, Result, nat_lt, w64, IsUtf8}
 use Rattle.std.proofs.lemmas.Bool.{false≢true}
+use Rattle.std.proofs.lemmas.Int.Digits.{digits_value-lt, digits_value_push}
+use Rattle.std.proofs.lemmas.List.{length-take, take_more}
+use Rattle.std.proofs.Math.Nat.{pow-le-pow_right}
 use Rattle.std.proofs.lemmas.Bool.Decides.{nat_tests}
 use Rattle.std.proofs.lemmas.Fmt.{IsAscii-from_digits, decimal_is_IsNumeral}
 use Rattle.std.proofs.lemmas.Str.{IsUtf8-from_ascii}
@@ -11,7 +14,7 @@ use Rattle.std.specs.Int.RustNames.{FitsSigned}
 use Rattle.std.specs.List.{list_all}
 use Rattle.std.specs.Result.{result_ok}
 use Rattle.std.specs.Str.{IsAscii}
-use Rattle.std.specs.Str.Parse.{AllDigits, IsNumeral, ParsesSigned, signed_digits_value, starts_with_minus, without_leading_sign}
+use Rattle.std.specs.Str.Parse.{AllDigits, IsNumeral, ParsesSigned, digits_value, signed_digits_value, starts_with_minus, without_leading_sign}
 use Rattle.value_text.specs.Numbers.{int_cell, is_i64, is_numeral}
 use Rattle.value_text.specs.Shown.{shown_int}
 use Rattle.value_text.specs.declared.cells.CellFault.{CellFault}
@@ -122,3 +125,31 @@ ints_read_back (pos n) small =
 ints_read_back (negsuc n) small =
     let own = decimal_is_IsNumeral (suc n) (grind (arith, nat_tests)) in
     rw (is_numeral-back (decimal (suc n)) own.0, own.1, small) refl
+
+-- ---- digits that are read one after the other
+
+digit_is : (c : ℕ) → is_ascii_digit c ≡ true → digit_value c ≡ c - 48
+digit_is c h = grind (arith, nat_tests)
+
+all_more : (ds : List ℕ) (c : ℕ) → list_all is_ascii_digit ds ≡ true → is_ascii_digit c ≡ true → list_all is_ascii_digit (ds ++ c ∷ []) ≡ true
+all_more [] c all one = rw one refl
+all_more (d ∷ ds) c all one = let b = both (is_ascii_digit d) (list_all is_ascii_digit ds) all in rw (b.0, all_more ds c b.1 one) refl
+
+-- one digit more
+module _ (cell : List ℕ) (i : ℕ) (less : i < length cell) (digit : is_ascii_digit (slice_index cell i) ≡ true) where
+  pub digits_more : list_all is_ascii_digit (take i cell) ≡ true → list_all is_ascii_digit (take (i + 1) cell) ≡ true
+  digits_more all = rw (take_more cell i 0 less) (all_more (take i cell) (slice_index cell i) all digit)
+
+  pub value_more : (number : ℕ) → number ≡ digits_value 10 (take i cell) → number * 10 + (slice_index cell i - 48) ≡ digits_value 10 (take (i + 1) cell)
+  value_more number is =
+      rw (take_more cell i 0 less, digits_value_push 10 (take i cell) (slice_index cell i), digit_is (slice_index cell i) digit, is) refl
+
+-- few digits are a small number
+few_digits : (ds : List ℕ) (most : ℕ) → length ds ≤ most → list_all is_ascii_digit ds ≡ true → digits_value 10 ds < 10 ^ most
+few_digits ds most few all =
+    let bound = digits_value-lt 10 ds (digits ds all) in
+    let more : 10 ^ length ds ≤ 10 ^ most = pow-le-pow_right (lit< tt) few in
+    omega (arith, bound, more)
+
+pub few_taken : (cell : List ℕ) (i most : ℕ) → i ≤ most → list_all is_ascii_digit (take i cell) ≡ true → digits_value 10 (take i cell) < 10 ^ most
+few_taken cell i most few all = few_digits (take i cell) most (omega (arith, length-take i cell, few)) all

@@ -1,5 +1,5 @@
 //! What cells say.
-ghost use Rattle.std.specs.Prelude.{◌≡◌, ◌≤◌, ◌+◌, ◌<◌, ◌-◌, ◌^◌, ℕ, List, IfOk, OnErr, length};
+ghost use Rattle.std.specs.Prelude.{◌≡◌, ◌≤◌, ◌+◌, ◌<◌, ◌-◌, ◌^◌, ℕ, List, IfOk, IfSome, Ok, OnErr, length};
 ghost use Rattle.std.specs.Char.{is_ascii_digit};
 ghost use Rattle.std.specs.List.{list_all};
 ghost use Rattle.std.specs.Result.{result_ok};
@@ -58,6 +58,30 @@ fn has_digits(digits: &[u8]) -> bool
     !digits.is_empty() && all_digits(digits)
 }
 
+/// How many digits a number has at most that surely fits.
+const MOST_DIGITS: usize = 18;
+
+// The number of a cell of so many decimal digits at most, and nothing else. Nearly every cell of numbers is one.
+fn plain(cell: &[u8]) -> Option<i64>
+    ensures { IfSome result (λ number. Ok number ≡ int_cell cell.now) }
+{
+    if cell.len() > MOST_DIGITS {
+        return None;
+    }
+    let mut number: u64 = 0;
+    for byte in cell {
+        if !byte.is_ascii_digit() {
+            return None;
+        }
+        number = number * 10 + u64::from(*byte - b'0');
+    }
+    if !cell.is_empty() {
+        Some(number as i64)
+    } else {
+        None
+    }
+}
+
 // The number of a cell, where it holds one that i64 has.
 fn number(cell: &[u8]) -> Option<i64>
     ensures { result ≡ result_ok (int_cell cell.now) }
@@ -76,6 +100,9 @@ fn number(cell: &[u8]) -> Option<i64>
 pub fn read_key(cell: &[u8]) -> Result<i64, CellFault>
     ensures { result ≡ int_cell cell.now }
 {
+    if let Some(number) = plain(cell) {
+        return Ok(number);
+    }
     if let Some(number) = number(cell) {
         return Ok(number);
     }

@@ -17,6 +17,7 @@ use Rattle.match_context.specs.declared.message.Message.{Message}
 use Rattle.match_context.proofs.Totals.{total-set, total-push, get-of_set, get-of_push}
 use Rattle.fabric.specs.Calls.{IsMessageOf, after_restore, has_space, can_push, after_push, with_last, first_of, rest_of, first_in, pop_answer, without_first, after_pop}
 use Rattle.fabric.specs.Shared.{Shared, IsUnit, cursor_at, pool_at, inbox_place, inbox_at}
+pub use Rattle.fabric.proofs.Agrees.{InboxIs, inbox-is}
 use Rattle.dfs_worker.specs.declared.event.Event.{Event}
 use Rattle.dfs_worker.specs.declared.event.Event.TheVariants.{Push, Pop, Restore}
 use Rattle.dfs_worker.specs.declared.guard.Guard.TheVariants as guard
@@ -43,20 +44,6 @@ use Rattle.world_core.proofs.Travels.{shape-of, message-unit}
 use Rattle.world_core.proofs.Words.{number-raised}
 
 -- ---- an inbox changes
--- the inbox that is there, and its place
-pub record InboxIs (s : Shared) (n k : ℕ) (ms : List Message) : Type 0 where
-  pub stage : k < s.shape.stages
-  pub at : slice_get s.inboxes (inbox_place s n k) ≡ Some ms
-
-pub inbox-is : (s : Shared) (n k : ℕ) (ms : List Message) → inbox_at s n k ≡ Some ms → InboxIs s n k ms
-inbox-is s n k ms e = go (nat_lt 0 k && nat_lt k s.shape.stages) refl
-  where
-    go : (b : Bool) → (nat_lt 0 k && nat_lt k s.shape.stages) ≡ b → InboxIs s n k ms
-    go true t =
-        let low = (and-true (nat_lt 0 k) (nat_lt k s.shape.stages) t).1 in
-        record { stage = grind (arith, nat_tests, low); at = sym (ap (λ b. cond b (slice_get s.inboxes (inbox_place s n k)) None) t) ∙ e }
-    go false t = absurd (none-some ms (sym (ap (λ b. cond b (slice_get s.inboxes (inbox_place s n k)) None) t) ∙ e))
-
 -- a message of the changed inboxes stood there before, or in the inbox that changed
 inbox-of_set : (s : Shared) (a j n k : ℕ) (new ms : List Message) (i : ℕ) (b : Message) → j < s.shape.stages → k < s.shape.stages →
     slice_get (slice_set s.inboxes (inbox_place s a j) new) (inbox_place s n k) ≡ Some ms → slice_get ms i ≡ Some b →

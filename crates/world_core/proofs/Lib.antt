@@ -1,5 +1,7 @@
 pub mod Bodies
+pub mod Bounds
 pub mod Ends
+pub mod Gauges
 pub mod Happens
 pub mod Inboxes
 pub mod Leaves
@@ -13,6 +15,7 @@ pub mod Rowless
 pub mod Starts
 pub mod Steps
 pub mod Travels
+pub mod Turns
 pub mod Weighs
 pub mod Words
 pub mod Works

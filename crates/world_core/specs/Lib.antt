@@ -1,3 +1,5 @@
+pub mod Bound
+pub mod Gauge
 pub mod May
 pub mod Owed
 pub mod Reach
@@ -5,5 +7,6 @@ pub mod Rows
 pub mod Sound
 pub mod Step
 pub mod Stepped
+pub mod Turns
 pub mod Work
 pub mod World

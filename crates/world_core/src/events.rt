@@ -1,3 +1,4 @@
+//! Each event's change.
 ghost use Rattle.std.specs.Prelude.{◌≡◌, OnOk, OnErr};
 ghost use Rattle.dfs_worker.specs.declared.event.Event.TheVariants as kind;
 ghost use Rattle.dfs_worker.specs.Own.{AddsRow, retired, charged, fetched, posted, freed, picked, restored, event_word, marked};

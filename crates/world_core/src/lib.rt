@@ -28,12 +28,14 @@
 
 mod events;
 mod gather;
+mod gauge;
 mod guards;
 pub mod laws;
 mod stepped;
 mod world;
 
 pub use dfs_worker::{Event, Guard};
+pub use gauge::Gauge;
 pub use guards::worker_of;
 pub use stepped::Stepped;
 pub use world::World;

@@ -1,3 +1,4 @@
+//! What a step answers.
 use dfs_worker::Guard;
 
 /// What a step answers.

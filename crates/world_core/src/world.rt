@@ -5,6 +5,7 @@ ghost use Rattle.world_core.specs.Reach.{CanReach};
 ghost use Rattle.world_core.specs.Rows.{IsFinished, all_rows, without_rows};
 ghost use Rattle.adfs_base.specs.Shape.{IsShape};
 ghost use Rattle.world_core.specs.Owed.{owed};
+ghost use Rattle.world_core.specs.Sound.{Sound};
 ghost use Rattle.world_core.specs.Step.{guard_of};
 ghost use Rattle.world_core.specs.Stepped.{IsStepped, IfDone, stepped_of};
 ghost use Rattle.world_core.specs.Work.{work_left};

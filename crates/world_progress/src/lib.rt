@@ -4,6 +4,12 @@
 //! step, since the pool has a buffer for each credit in hand and the inbox room for each message; and where all tops wait
 //! for credits, those of the latest stage have a message that a worker may take. It holds in every sound world, however
 //! it was reached.
+//!
+//! So `some_event` and `policy_event` find an event exactly where not all stages are closed. `run_to_end` makes events
+//! until all are: each leaves less work, so it makes at most as many as the work that was left, and its `Steps` count
+//! them. A worker goes on as long as it can, and no event is looked for elsewhere while it does. `rows_of_tree` is a run
+//! from the start to its end: its rows are the leaves of the tree, as a bag. Only a row may find no memory, and the list
+//! into which the rows are put at the end.
 #![tactic(auto)]
 
 mod attempts;

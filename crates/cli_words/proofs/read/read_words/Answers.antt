@@ -5,6 +5,7 @@ use Rattle.cli_words.specs.Form.{read_on}
 use Rattle.cli_words.specs.Said.{at_first}
 use Rattle.cli_words.proofs.BareReading.{accepted, refused_at}
 use Rattle.cli_words.proofs.FilesNamed.{said_files}
+use Rattle.cli_words.proofs.Ranges.{said_limits}
 use Rattle.cli_words.proofs.WordsInTurn.{after_command, all_after_first}
 use Rattle.cli_words.proofs.read.read_words.Goals as goal
 
@@ -22,3 +23,7 @@ take_words-requires c =
 pub returns-in-Ok-take_words-clause-files : goal.returns-in-Ok-take_words-clause-files
 returns-in-Ok-take_words-clause-files c =
     said_files (map string_bytes (drop 1 c.args.words.now)) c.in-Some.command c.in-Ok-take_words.options c.in-Ok-take_words.ensures
+
+pub returns-in-Ok-take_words-clause-limits : goal.returns-in-Ok-take_words-clause-limits
+returns-in-Ok-take_words-clause-limits c =
+    said_limits (map string_bytes (drop 1 c.args.words.now)) c.in-Some.command c.in-Ok-take_words.options c.in-Ok-take_words.ensures

@@ -5,7 +5,9 @@ use Rattle.element_store.proofs.ElementFacts.{length-named}
 use Rattle.element_store.proofs.RowFacts.{kinds_length}
 use Rattle.element_store.specs.Columns.{named}
 use Rattle.element_store.specs.Elements.{Element}
-use Rattle.graph_loading.proofs.SoundFacts.{kept_length, named_valid, sound_edge}
+use Rattle.graph_tables.specs.declared.element_kind.ElementKind.TheVariants as element
+use Rattle.graph_loading.proofs.LongFacts.{new_long, values_long}
+use Rattle.graph_loading.proofs.SoundFacts.{kept_length, named_long, named_valid, sound_edge}
 use Rattle.std.proofs.lemmas.Result.{err_from_is_err_and}
 use Rattle.csv.specs.Records.{fields_of}
 use Rattle.graph_tables.specs.Loading.{graph_of}
@@ -78,11 +80,13 @@ returns-clause-sound c =
     let grown = kept_length c.args.loading.now.texts c.read_values.new.texts c.in_ok-read_values.ensures.read.kept in
     let few = rw c.columns-columns.ensures at c.in_ok-read_values.ensures.read.room in
     let label = c.requires.sound.edge_label c.requires.table in
+    let long = new_long c.args.at c.args.loading.now.edges.elements c.cell.result.now c.in_ok-key.key c.in_ok-key.ensures.key in
+    let longs = values_long element.Edge c.args.at columns (fields_of c.args.row.now) c.args.loading.now.texts (values, c.read_values.new.texts) (rw c.columns-columns.ensures at c.in_ok-read_values.ensures.values) in
     let texts = c.in_ok-push_edge.ensures.texts in
     let e : Element = record { key = c.in_ok-key.key; label = c.args.loading.now.edges.label; values = named columns values } in
     sound_edge c.args.loading.now c.push_edge.new.loading e c.in_ok-ends.ends c.requires.sound (rw (c.in_ok-push_edge.ensures.edges, c.deref.ensures.value, key) refl) c.in_ok-push_edge.ensures.ends
     (rw c.in_ok-push_edge.ensures.edges refl) (rw c.in_ok-push_edge.ensures.edges refl) c.in_ok-push_edge.ensures.vertices
     (rw c.in_ok-push_edge.ensures.edges refl) c.in_ok-push_edge.ensures.vertex_properties c.in_ok-push_edge.ensures.edge_properties
     (rw texts (omega (arith, label, grown), named_valid c.read_values.new.texts columns values c.in_ok-read_values.ensures.read.valid))
-    (named_typed c.args.loading.now.edge_properties columns values c.requires.sound.edge_columns kinds) c.in_ok-ends.ensures.source c.in_ok-ends.ensures.target
+    (named_typed c.args.loading.now.edge_properties columns values c.requires.sound.edge_columns kinds) (long, named_long columns values longs) c.in_ok-ends.ensures.source c.in_ok-ends.ensures.target
     (rw texts grown) (rw texts (omega (arith, few, named_size, size))) c.requires.edges (omega (arith, c.requires.cells, named_size, size))

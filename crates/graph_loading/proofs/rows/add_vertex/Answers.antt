@@ -10,7 +10,9 @@ use Rattle.element_store.specs.Elements.{Element}
 use Rattle.graph_tables.specs.Loading.{graph_of}
 use Rattle.graph_tables.proofs.TypeFacts.{named_typed}
 use Rattle.graph_loading.proofs.RowLaws.{vertex_added, vertex_key_failed, vertex_values_failed}
-use Rattle.graph_loading.proofs.SoundFacts.{kept_length, named_valid, sound_vertex}
+use Rattle.graph_tables.specs.declared.element_kind.ElementKind.TheVariants as element
+use Rattle.graph_loading.proofs.LongFacts.{new_long, values_long}
+use Rattle.graph_loading.proofs.SoundFacts.{kept_length, named_long, named_valid, sound_vertex}
 use Rattle.graph_loading.proofs.rows.add_vertex.Goals as goal
 
 pub returns-in_err-key-clause-gives : goal.returns-in_err-key-clause-gives
@@ -45,8 +47,10 @@ returns-clause-sound c =
     let grown = kept_length c.args.loading.now.texts c.read_values.new.texts c.in_ok-read_values.ensures.read.kept in
     let few = rw c.columns-columns.ensures at c.in_ok-read_values.ensures.read.room in
     let label = c.requires.sound.vertex_label c.requires.table in
+    let long = new_long c.args.at c.args.loading.now.vertices.elements c.cell.result.now c.in_ok-key.key c.in_ok-key.ensures.key in
+    let longs = values_long element.Vertex c.args.at columns (fields_of c.args.row.now) c.args.loading.now.texts (values, c.read_values.new.texts) (rw c.columns-columns.ensures at c.in_ok-read_values.ensures.values) in
     let v : Element = record { key = c.in_ok-key.key; label = c.args.loading.now.vertices.label; values = named columns values } in
     sound_vertex c.args.loading.now c.add.new.self c.read_values.new.texts v c.requires.sound (rw (c.in_ok-add.ensures.ok, c.deref.ensures.value, key) refl) (rw c.in_ok-add.ensures.ok refl) (rw c.in_ok-add.ensures.ok refl) (rw c.in_ok-add.ensures.ok refl)
     (omega (arith, label, grown), named_valid c.read_values.new.texts columns values c.in_ok-read_values.ensures.read.valid)
-    (named_typed c.args.loading.now.vertex_properties columns values c.requires.sound.vertex_columns kinds) grown (omega (arith, few, named_size, size)) c.requires.vertices
+    (named_typed c.args.loading.now.vertex_properties columns values c.requires.sound.vertex_columns kinds) (long, named_long columns values longs) grown (omega (arith, few, named_size, size)) c.requires.vertices
     (omega (arith, c.requires.cells, named_size, size))

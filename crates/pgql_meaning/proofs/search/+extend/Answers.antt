@@ -3,8 +3,8 @@ use Rattle.std.proofs.lemmas.Grind.{common_steps}
 use Rattle.std.proofs.lemmas.List.{take_at}
 use Rattle.answer_rows.specs.Arranged.{Shown}
 use Rattle.graph_tables.specs.Graph.{PropertyGraph}
-use Rattle.typed_expr.specs.declared.query.Query.{Query}
-use Rattle.typed_expr.specs.declared.query.Variable.{Variable}
+use Rattle.typed_query.specs.declared.query.Query.{Query}
+use Rattle.typed_query.specs.declared.query.Variable.{Variable}
 use Rattle.pgql_meaning.specs.Answer.{shown}
 use Rattle.pgql_meaning.specs.Assignments.{extensions, range_of, ranges_of}
 use Rattle.pgql_meaning.specs.Fits.{fits}

@@ -1,5 +1,5 @@
 use Rattle.std.proofs.Common.{◌≡◌, ◌++◌, drop, map}
-use Rattle.typed_expr.specs.Val.{val}
+use Rattle.typed_query.specs.Val.{val}
 use Rattle.pgql_meaning.proofs.search.row_of.Given as goal
 
 -- what is left, after the values so far, gives all of them

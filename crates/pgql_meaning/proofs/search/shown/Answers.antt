@@ -1,7 +1,7 @@
 use Rattle.std.proofs.Common.{◌≡◌, ℕ, List, refl, ◌∙◌}
 use Rattle.adfs_base.specs.declared.value.Value.{Value}
 use Rattle.answer_rows.specs.Arranged.{Shown}
-use Rattle.typed_expr.specs.declared.query.Query.{Query}
+use Rattle.typed_query.specs.declared.query.Query.{Query}
 use Rattle.pgql_meaning.specs.Answer.{order_by, row_by, shown_by}
 use Rattle.pgql_meaning.proofs.search.shown.Goals as goal
 

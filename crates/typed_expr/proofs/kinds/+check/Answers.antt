@@ -1,7 +1,7 @@
 use Rattle.std.proofs.Common.{sym}
 use Rattle.typed_expr.specs.declared.kinds.Checked.{Checked}
 use Rattle.typed_expr.specs.Kinds.{checked, checked_of}
-use Rattle.typed_expr.proofs.AstFolds.{fold-Int, fold-Text, fold-Date, fold-Bool, fold-Name, fold-Property, fold-Id, fold-Label, fold-Not, fold-Neg, fold-IsNull, fold-Binary}
+use Rattle.literal_texts.proofs.AstFolds.{fold-Int, fold-Text, fold-Date, fold-Bool, fold-Name, fold-Property, fold-Id, fold-Label, fold-Not, fold-Neg, fold-IsNull, fold-Binary}
 use Rattle.typed_expr.proofs.kinds.+check.Goals as goal
 
 pub returns-in-Int : goal.returns-in-Int

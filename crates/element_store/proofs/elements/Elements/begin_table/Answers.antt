@@ -11,10 +11,10 @@ overflow_cast-first c =
 
 pub invariant_of-self-2 : goal.invariant_of-self-2
 invariant_of-self-2 c =
-    let t = c.new.result in
-    let empty : t.rows ≡ [] = rw c.new.ensures refl in
+    let t = c.in_ok-table.table in
+    let empty : t.rows ≡ [] = rw c.in_ok-table.ensures refl in
     let begun = rows_begun c.self.inside.tables.items t empty in
-    let first : t.first ≡ c.len-first.result = rw c.new.ensures refl in
+    let first : t.first ≡ c.len-first.result = rw c.in_ok-table.ensures refl in
     rw c.in_ok-push.ensures.items (record {
       a_row_each = rw begun c.self.invariant.a_row_each;
       stacked = stacked_begun 0 c.self.inside.tables.items t c.self.invariant.stacked (first ∙ c.len-first.ensures.len ∙ omega (arith, c.self.invariant.a_row_each));
@@ -23,6 +23,6 @@ invariant_of-self-2 c =
 
 pub returns-clause-ok : goal.returns-clause-ok
 returns-clause-ok c =
-    let t = c.new.result in
-    let empty : t.rows ≡ [] = rw c.new.ensures refl in
-    rw (c.in_ok-push.ensures.items, rows_begun c.self.inside.tables.items t empty, label_begun c.self.inside.tables.items t, columns_begun c.self.inside.tables.items t, length-append c.self.inside.tables.items (t ∷ []), c.new.ensures, ← c.self.view_is) refl
+    let t = c.in_ok-table.table in
+    let empty : t.rows ≡ [] = rw c.in_ok-table.ensures refl in
+    rw (c.in_ok-push.ensures.items, rows_begun c.self.inside.tables.items t empty, label_begun c.self.inside.tables.items t, columns_begun c.self.inside.tables.items t, length-append c.self.inside.tables.items (t ∷ []), c.in_ok-table.ensures, ← c.self.view_is) refl

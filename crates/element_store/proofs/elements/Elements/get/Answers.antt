@@ -1,7 +1,8 @@
-use Rattle.std.proofs.Common.{rules, refl, w64, pos, slice_index_or}
+use Rattle.std.proofs.Common.{rules, w64, pos, slice_index_or}
 use Rattle.std.specs.Int.RustNames.{FitsSigned}
 use Rattle.std.proofs.lemmas.Int.{to_z-of_z}
-use Rattle.element_store.proofs.ElementFacts.{element_read, length-joined}
+use Rattle.std.proofs.lemmas.Option.{slice_get-get_or}
+use Rattle.element_store.proofs.ElementFacts.{joined_both, length-joined}
 use Rattle.element_store.proofs.elements.Elements.get.Goals as goal
 
 pub bounds-as_slice-number : goal.bounds-as_slice-number
@@ -10,8 +11,8 @@ bounds-as_slice-number c =
     let less = rw (← c.self.view_is, size) at c.requires in
     rw c.as_slice.ensures.keys less
 
-pub table_of-table-requires-clause-within : goal.table_of-table-requires-clause-within
-table_of-table-requires-clause-within c =
+pub label_at-requires-clause-within : goal.label_at-requires-clause-within
+label_at-requires-clause-within c =
     let size = length-joined c.self.inside.keys.keys _ c.self.invariant.a_row_each in
     let less = rw (← c.self.view_is, size) at c.requires in
     rw (c.deref.ensures.value, c.self.invariant.a_row_each) less
@@ -20,8 +21,9 @@ pub returns : goal.returns
 returns c =
     let size = length-joined c.self.inside.keys.keys _ c.self.invariant.a_row_each in
     let less = rw (← c.self.view_is, size) at c.requires in
-    let has = rw c.deref.ensures.value at c.table_of-table.ensures in
-    let read = element_read c.self.inside.keys.keys c.self.inside.tables.items c.args.number c.table_of-table.result.now c.self.invariant.a_row_each less has in
+    let label = rw c.deref.ensures.value at c.label_at.ensures in
     let fits : FitsSigned w64 (slice_index_or c.as_slice.result.now c.args.number (pos 0)) = search rules in
     let key = to_z-of_z w64 (slice_index_or c.as_slice.result.now c.args.number (pos 0)) fits in
-    rw (← c.self.view_is, read, key, c.as_slice.ensures.keys, c.label.ensures) refl
+    rw (← c.self.view_is, key, c.as_slice.ensures.keys)
+    (joined_both c.self.inside.keys.keys _ c.args.number (slice_index_or c.self.inside.keys.keys c.args.number (pos 0)) c.label_at.result c.self.invariant.a_row_each
+    (slice_get-get_or c.self.inside.keys.keys c.args.number (pos 0) less) label)

@@ -10,4 +10,4 @@ overflow_add-self c =
 
 pub returns-clause-ok : goal.returns-clause-ok
 returns-clause-ok c =
-    rw (← c.self.view_is, rows_after c.self.inside.columns c.self.inside.rows c.args.values.now c.self.inside.cells c.push_row.new.cells c.self.invariant c.in_ok-push_row.ensures.ok) refl
+    rw (← c.self.view_is, rows_after c.self.inside.columns c.self.inside.rows c.args.values.now c.self.inside.cells c.push_words.new.cells c.self.invariant.a_cell_each c.in_ok-push_words.ensures.ok) refl

@@ -8,6 +8,6 @@ use Rattle.pgql_expr.proofs.expr.Grammar.sign.Goals as goal
 
 pub returns-in-Minus-clause-reads : goal.returns-in-Minus-clause-reads
 returns-in-Minus-clause-reads g c =
-    let P : Outcome Found → Type 0 = λ o. Reads o c.negated.result c.negated.new.input in
+    let P : Outcome Found → Type 0 = λ o. Reads o c.minus.result c.minus.new.input in
     let same = read_minus c.args.self.now.most (nested c.args.self.now.most) c.args.input.now (told c.in-Some.t) c.in-Some.ensures c.in-Minus.is in
-    subst P (sym same) c.negated.ensures.reads
+    subst P (sym same) c.minus.ensures.reads

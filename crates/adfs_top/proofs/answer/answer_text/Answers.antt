@@ -1,6 +1,0 @@
-use Rattle.adfs_top.proofs.Steps.{answered}
-use Rattle.adfs_top.proofs.answer.answer_text.Goals as goal
-
-pub returns-in-Ok-clause-gives : goal.returns-in-Ok-clause-gives
-returns-in-Ok-clause-gives c =
-    answered c.args.graph.now c.args.schema.now c.args.texts.now c.args.text.now c.in_ok-places.places.items _ c.in-Ok.replies c.in_ok-places.ensures.gives (rw c.deref.ensures.value at c.in-Ok.ensures)

@@ -1,0 +1,5 @@
+pub mod EntryLists
+pub mod LabelNumbers
+pub mod Roots
+pub mod SeenWords
+pub mod StageFitting

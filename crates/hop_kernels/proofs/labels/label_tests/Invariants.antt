@@ -1,0 +1,7 @@
+use Rattle.std.proofs.Common.{◌≡◌, ℕ, ◌<◌, length, slice_index_or}
+use Rattle.plan_tree.specs.Answers.{labels_of}
+use Rattle.hop_kernels.specs.LabelTests.{AreTests}
+use Rattle.hop_kernels.proofs.labels.label_tests.Given as goal
+
+abbrev pub invariant-loop-variable : goal.invariant-loop-variable
+invariant-loop-variable l = AreTests l.texts l.query l.tests

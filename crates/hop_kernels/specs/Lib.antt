@@ -1,0 +1,10 @@
+pub mod Entries
+pub mod Fitting
+pub mod Frames
+pub mod LabelTests
+pub mod Laws
+pub mod Looks
+pub mod Over
+pub mod PlanTrees
+pub mod Props
+pub mod Spots

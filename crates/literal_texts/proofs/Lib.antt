@@ -1,0 +1,3 @@
+pub mod AstFolds
+pub mod Cases
+mod Counts

@@ -1,0 +1,29 @@
+-- Together the parts are the graph.
+use Rattle.std.specs.Prelude.{◌≡◌, ℕ, ◌<◌, ◌==◌, Bool, if◌then◌else◌, List, length, count_by, slice_get, Option, Some}
+use Rattle.graph_tables.specs.Graph.{Edge, PropertyGraph}
+use Rattle.partition.specs.Owners.{machine_of}
+use Rattle.partition.specs.Parts.{Entry, lists_of, near_end, part_of}
+use Rattle.partition.specs.declared.owner.Owner.{Owner}
+
+-- once where it is so, else not at all
+abbrev pub once_if : Bool → ℕ
+once_if b = if b then 1 else 0
+
+-- The list of a vertex has an edge once where that end of the edge is the vertex, else not at all.
+pub record ListsOnce (out : Bool) (list : Option (List Entry)) (vertex number : ℕ) (e : Edge) : Type 0 where
+  pub entries : List Entry
+  pub is : list ≡ Some entries
+  pub once : count_by (λ entry. entry.edge == number) entries ≡ once_if (near_end out e == vertex)
+
+-- Each vertex stands once in the part of its machine, and in no other; it is the graph's; and in its lists stand, once each, the
+-- edges with that end.
+pub record Stand (g : PropertyGraph) (owner : Owner) (machines machine : ℕ) : Type 0 where
+  pub vertex_once : (v : ℕ) → v < length g.vertices
+      → count_by (λ n. n == v) (part_of g owner machines machine).numbers ≡ once_if (machine_of owner (length g.vertices) machines v == machine)
+  pub vertex_there : (place v : ℕ) → slice_get (part_of g owner machines machine).numbers place ≡ Some v
+      → slice_get (part_of g owner machines machine).vertices place ≡ slice_get g.vertices v
+  pub edge_once : (out : Bool) (place v n : ℕ) (e : Edge) → slice_get (part_of g owner machines machine).numbers place ≡ Some v → slice_get g.edges n ≡ Some e
+      → ListsOnce out (slice_get (lists_of out (part_of g owner machines machine)) place) v n e
+
+abbrev pub PartsAreTheGraph : Type 0
+PartsAreTheGraph = (g : PropertyGraph) (owner : Owner) (machines machine : ℕ) → Stand g owner machines machine

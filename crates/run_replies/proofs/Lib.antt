@@ -1,0 +1,3 @@
+pub mod FileFacts
+pub mod Steps
+pub mod WordFacts

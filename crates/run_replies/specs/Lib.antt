@@ -1,0 +1,4 @@
+pub mod Causes
+pub mod Outcome
+pub mod Parts
+pub mod Words

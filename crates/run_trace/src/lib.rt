@@ -1,0 +1,19 @@
+//! Traces: a run that was written down, taken again.
+//!
+//! `replay` makes the events of a text in turn, from the start of a run to its end, and tells how many there were and
+//! the most that ever stood outside the pools. It answers `Ok` exactly where the text is the lines of a legal run from the
+//! start to a finished world, closed by a line `finished` (`laws::replays_are_runs`); else it tells the first line that
+//! is no event's, the first event that isn't enabled with the guard that fails first, or that the run isn't finished.
+//! What follows `finished` isn't read.
+//!
+//! The lines themselves are those of `trace_text`.
+#![tactic(auto)]
+
+pub mod laws;
+mod replaying;
+
+pub use replaying::{Replayed, replay};
+pub use trace_text::{
+    Header, PartWord, ReplayFault, put_event, put_header, read_event, read_header,
+};
+pub use world_core::Gauge;

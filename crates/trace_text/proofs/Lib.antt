@@ -1,0 +1,7 @@
+mod Cuts
+mod Feeds
+mod Files
+mod LineEnds
+pub mod Lines
+mod Numerals
+mod Places

@@ -1,7 +1,0 @@
-use Rattle.std.proofs.Common.{arith}
-use Rattle.typed_expr.specs.Uses.{literals}
-use Rattle.typed_expr.proofs.Lists.{count-end}
-use Rattle.typed_expr.proofs.count.count_in_items.Goals as goal
-
-pub returns : goal.returns
-returns c = count-end (λ item. literals item.expr) c.args.items.now c.loop-item.item-index c.loop-item.count _ (omega arith) c.loop-item.invariant.small c.loop-item.invariant.so_far
