@@ -1,3 +1,4 @@
+//! What a kernel reads.
 ghost use Rattle.std.specs.Prelude.{◌≡◌, ◌<◌};
 ghost use Rattle.std.proofs.Props.{props};
 ghost use Rattle.value_text.specs.Texts.{text_at};

@@ -1,3 +1,4 @@
+//! What each query of a file is answered, or its plan.
 ghost use Rattle.std.specs.Prelude.{◌≡◌, ◌+◌, ◌-◌, ◌<◌, ◌≤◌, ◌↔◌, ◌^◌, ◌||◌, ℕ, true, false, List, IfOk, OnOk, All, is_err, length, map};
 ghost use Rattle.pgql_lexer.specs.Places.{LiesBetween};
 ghost use Rattle.pgql_meaning.specs.Shown.{HasMeaning, HasShown};

@@ -1,3 +1,4 @@
+//! All workers and what they share, as one value.
 ghost use Rattle.std.specs.Prelude.{◌≡◌, ◌*◌, ◌<◌, ◌≤◌, ◌↔◌, IsTrue, IfOk, OnOk, OnErr, length, slice_get, Some, None};
 ghost use Rattle.dfs_worker.specs.Sound.{IsWorker};
 ghost use Rattle.world_core.specs.Sound.{Sound};
