@@ -18,7 +18,8 @@ use Rattle.adfs_base.specs.declared.step_answers.Word.{Word}
 use Rattle.match_context.specs.Batch.{Batch}
 use Rattle.match_context.specs.declared.message.Message.{Message}
 use Rattle.fabric.specs.Account.{Holding, Call, ToClaim, ToRetire, ToCharge, ToFetch, ToPost, ToPush, ToPop, ToPick, ToRestore, ToDischarge, ToMark, ToClose, ToLook, Given, Nothing, Roots, Taken, Came, Seen, Allows, IsGiven, holds_after, unlooked, at_end}
-use Rattle.fabric.specs.Calls.{can_claim, chunk_end, claim_answer, after_claim, after_retire, can_charge, charge_answer, after_charge, after_discharge, can_fetch, empty_buffer, fetch_answer, after_fetch, after_restore, after_post, can_pick, pick_answer, after_pick, has_space, can_push, with_last, after_push, first_in, pop_answer, without_first, after_pop, mark_answer, after_close}
+use Rattle.fabric.specs.Calls.{can_claim, chunk_end, claim_answer, after_claim, after_retire, can_charge, charge_answer, after_charge, after_discharge, can_fetch, empty_buffer, fetch_answer, after_fetch, after_restore, after_post}
+use Rattle.fabric.specs.Calls.{can_pick, pick_answer, after_pick, has_space, can_push, with_last, after_push, first_in, pop_answer, without_first, after_pop, mark_answer, after_close}
 use Rattle.fabric.specs.Fabric.{MayCall, SameExtent, Ready, Missed, OnClaimed, OnCharge, OnPick, OnMarked, OnClosing}
 use Rattle.fabric.specs.Plain.{PlainDone, PlainExcused, PlainAgrees, plain_shape, outcome, if_ready, if_given}
 use Rattle.fabric.specs.Shared.{Shared, machine_of, used_at, flying_at, roots_at, cursor_at, enrolled_at, pool_at, word_at, inbox_place, inbox_at}

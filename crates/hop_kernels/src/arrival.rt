@@ -13,13 +13,14 @@ use crate::ground::Ground;
 use crate::look::{Look, all_hold, all_told, first_word};
 use crate::spot::{Spot, place_in};
 use crate::words::write;
+use adfs_base::CONTEXT_WORDS;
 use match_context::Context;
 use stage_plan::{Gains, Stage};
 
 // The vertex at which a context arrives; none where the part lacks it or it has another label.
 fn vertex_ahead(ground: &Ground<'_>, variable: u32, context: &Context) -> Option<Look>
     requires numbered { AreNumbered ground.now.part.now }
-    requires there { 1 + variable < 40 }
+    requires there { 1 + variable < CONTEXT_WORDS }
     ensures { MatchOption result ((gains : Gains) → answers.arrived_by ground.now.texts.now ground.now.query.now ground.now.part.now gains context.now.words (Some variable) ≡ None)
         (λ look. IsVertexAhead ground.now.texts.now ground.now.query.now ground.now.part.now variable context.now.words look) }
 {

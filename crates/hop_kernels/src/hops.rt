@@ -56,7 +56,7 @@ fn entry_place(
     out: bool,
 ) -> Option<u32>
     requires numbered { AreNumbered ground.now.part.now }
-    requires there { 1 + stage.now.current < 40 }
+    requires there { 1 + stage.now.current < CONTEXT_WORDS }
     ensures { MatchOption result (slice_get (answers.entries_in out ground.now.part.now (slice_index context.now.words (1 + stage.now.current))) number ≡ None)
         (λ place. IsEntryAt out ground.now.part.now (slice_index context.now.words (1 + stage.now.current)) number place) }
 {
@@ -92,7 +92,7 @@ fn others_told(ground: &Ground<'_>, gains: &Gains, edge: u32, context: &Context)
 
 // The numbers of an entry's edge and of its other end, where that is new, among the words.
 fn bind(words: &mut [u64; CONTEXT_WORDS as usize], step: Step, entry: Link)
-    requires edge_there { 1 + step.edge < 40 }
+    requires edge_there { 1 + step.edge < CONTEXT_WORDS }
     requires end_there { IsBelow 39 step.to }
     ensures { words.new ≡ with_end step.to entry.other (told.with_number step.edge entry.edge words.old) }
 {

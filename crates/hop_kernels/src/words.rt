@@ -59,7 +59,7 @@ fn put_capture(
     place: usize,
     word: Option<u64>,
 )
-    requires { 1 + variables + place < 40 }
+    requires { 1 + variables + place < CONTEXT_WORDS }
     ensures { words.new ≡ told.with_capture variables place word words.old }
 {
     let bit = 1u64 << place;

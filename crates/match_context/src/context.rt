@@ -18,7 +18,7 @@ pub struct Context {
 impl Context {
     /// The number of the element for which a variable stands.
     pub fn number(&self, variable: usize) -> u32
-        requires { 1 + variable < 40 }
+        requires { 1 + variable < CONTEXT_WORDS }
         ensures { result ≡ number_in self.now.words variable }
     {
         (self.words[1 + variable] % 4_294_967_296) as u32
@@ -26,7 +26,7 @@ impl Context {
 
     /// The word of a captured value, which stands behind those of so many variables. `None` is null.
     pub fn captured(&self, variables: usize, capture: usize) -> Option<u64>
-        requires { 1 + variables + capture < 40 }
+        requires { 1 + variables + capture < CONTEXT_WORDS }
         ensures { result ≡ captured_in self.now.words variables capture }
     {
         if (self.words[0] >> capture) & 1 == 1 {

@@ -9,6 +9,7 @@ ghost use Rattle.partition.specs.declared.owner.Owner.TheVariants as owner;
 use crate::fault::PartFault;
 use crate::owner::{MachineList, Owner};
 use crate::owner_line::{Named, named_by};
+use adfs_base::FILE_BYTES;
 use graph_tables::Graph;
 use std::alloc::Global;
 use text_lines::Lines;
@@ -63,7 +64,7 @@ fn take_lines(
     graph: &Graph,
     owners: &mut [Option<u32>],
 ) -> Result<(), PartFault>
-    requires short { length bytes.now ≤ 268435456 }
+    requires short { length bytes.now ≤ FILE_BYTES }
     requires length { length owners.old ≡ length graph.now.vertices }
     ensures gives { Gives (λ _. owners.new) result (with_lines 1 machines graph.now.vertices (lines bytes.now) owners.old) }
     ensures length { length owners.new ≡ length owners.old }
@@ -94,7 +95,7 @@ fn each_owned(alloc: Global, graph: &Graph, owners: &[Option<u32>]) -> Result<Ve
 
 // The machines that the file lists.
 fn listed(alloc: Global, bytes: &[u8], graph: &Graph, machines: u32) -> Result<Vec<u32>, PartFault>
-    requires { length bytes.now ≤ 268435456 }
+    requires { length bytes.now ≤ FILE_BYTES }
     ensures { Gives (λ list. list.items) result (machines_of bytes.now graph.now.vertices machines) }
 {
     let mut owners = vec![in alloc; None; graph.vertices() as usize]?;
@@ -118,7 +119,7 @@ pub fn read_owners(
     graph: &Graph,
     machines: u32,
 ) -> Result<Owner, PartFault>
-    requires { length bytes.now ≤ 268435456 }
+    requires { length bytes.now ≤ FILE_BYTES }
     ensures exact { Gives (λ owner. owner) result (owners_of bytes.now graph.now.vertices machines) }
     ensures fits { IfOk result (λ owner. IsOwner owner (length graph.now.vertices) machines) }
 {

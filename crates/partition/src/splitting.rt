@@ -1,12 +1,12 @@
 //! How a graph is split.
 ghost use Rattle.std.specs.Prelude.{◌≡◌, ◌<◌, ◌^◌, IfOk, length, map};
 ghost use Rattle.std.specs.List.{AllByRecursion, range_with_len};
-ghost use Rattle.partition.specs.Kept.{IsOwn, IsPart, part_in};
+ghost use Rattle.partition.specs.Kept.{AreDealt, IsOwn, IsPart, part_in};
 ghost use Rattle.partition.specs.Owners.{IsOwner};
-ghost use Rattle.partition.specs.Parts.{PartsMeet};
+ghost use Rattle.partition.specs.Parts.{PartsMeet, owners_in};
 
 use crate::chains::deal_edges;
-use crate::dealing::deal;
+use crate::dealing::{Dealing, deal};
 use crate::lists::{Own, own_each};
 use crate::owner::Owner;
 use crate::part::Part;
@@ -29,6 +29,25 @@ fn deal_out(
 {
     let both = deal_edges(alloc, graph)?;
     own_each(alloc, graph, owners, &both, machines)
+}
+
+// Who has which vertex, and what each machine has.
+fn dealt(
+    alloc: Global,
+    graph: &BareGraph,
+    owner: &Owner,
+    machines: u32,
+) -> Result<(Dealing, Vec<Own>), NoMemory>
+    requires some { 0 < machines }
+    requires owner { IsOwner owner.now (length graph.now.vertices) machines }
+    ensures owners { IfOk result (λ d. d.0.owners.items ≡ owners_in owner.now (length graph.now.vertices) machines) }
+    ensures dealt { IfOk result (λ d. AreDealt (length graph.now.vertices) d.0) }
+    ensures machines { IfOk result (λ d. map (λ own. own.machine) d.1.items ≡ range_with_len 0 machines) }
+    ensures own { IfOk result (λ d. AllByRecursion (IsOwn d.0.owners.items graph.now.edges) d.1.items) }
+{
+    let dealing = deal(alloc, owner, graph.vertices(), machines)?;
+    let all = deal_out(alloc, graph, &dealing.owners, machines)?;
+    Ok((dealing, all))
 }
 
 // The parts, of what each machine has and of what all share.
@@ -78,9 +97,10 @@ pub fn split(
     requires owner { IsOwner owner.now (length graph.vertices) machines }
     ensures parts { IfOk result (λ parts. PartsMeet graph owner.now machines parts.items) }
 {
-    let dealing = deal(alloc, owner, graph.vertices(), machines)?;
     let bare = graph.into_bare()?;
-    let all = deal_out(alloc, &bare, &dealing.owners, machines)?;
+    // What this call promises bounds the vertices.
+    let _vertices = bare.vertices();
+    let (dealing, all) = dealt(alloc, &bare, owner, machines)?;
     let (vertices, edges) = bare.into_lists();
     let shared = Shared {
         dealing,

@@ -6,7 +6,7 @@ ghost use Rattle.pgql_lexer.specs.Parts.{ended_by, part_after};
 ghost use Rattle.pgql_lexer.specs.Places.{LiesBetween, StandBetween};
 
 use crate::fronts::{byte_at, comment_end, is_space, literal_end};
-use adfs_base::NoMemory;
+use adfs_base::{FILE_BYTES, NoMemory};
 use std::alloc::Global;
 
 /// What a byte is to the piece that it stands in.
@@ -115,7 +115,7 @@ fn read_on(
 ///
 /// `NoMemory` alone.
 pub fn cut(alloc: Global, text: &[u8]) -> Result<Vec<(u32, u32)>, NoMemory>
-    requires short { length text.now ≤ 268435456 }
+    requires short { length text.now ≤ FILE_BYTES }
     ensures exact { IfOk result (λ found. found.items ≡ pieces text.now) }
     ensures order { IfOk result (λ found. StandBetween 0 (length text.now) found.items) }
     ensures within { IfOk result (λ found. All (LiesBetween 0 (length text.now)) found.items) }

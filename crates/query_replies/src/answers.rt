@@ -13,7 +13,7 @@ ghost use Rattle.query_replies.specs.Asked.{IsMeant, answering};
 ghost use Rattle.query_replies.specs.Replies.{AreAnswers, ArePlans, AreReplies, IsAnswer};
 
 use crate::faults::{refusal_of_syntax, refusal_of_typing};
-use adfs_base::NoMemory;
+use adfs_base::{FILE_BYTES, NoMemory};
 use graph_tables::{Graph, Schema};
 use pgql_meaning::answer_plain;
 use pgql_syntax::{Ast, parse};
@@ -218,7 +218,7 @@ fn replies_to_all(
     file: &[u8],
     pieces: &[(u32, u32)],
 ) -> Result<Replies, NoMemory>
-    requires short { length file.now ≤ 268435456 }
+    requires short { length file.now ≤ FILE_BYTES }
     requires few { length pieces.now ≤ 4096 }
     requires within { All (LiesBetween 0 (length file.now)) pieces.now }
     requires shown { IsMeant texts.old asked }
@@ -252,7 +252,7 @@ pub fn answer_queries(
     file: &[u8],
     pieces: &[(u32, u32)],
 ) -> Result<Replies, NoMemory>
-    requires short { length file.now ≤ 268435456 }
+    requires short { length file.now ≤ FILE_BYTES }
     requires few { length pieces.now ≤ 4096 }
     requires within { All (LiesBetween 0 (length file.now)) pieces.now }
     requires shown { HasShown texts.old graph.now }
@@ -270,7 +270,7 @@ pub fn plan_queries(
     file: &[u8],
     pieces: &[(u32, u32)],
 ) -> Result<Replies, NoMemory>
-    requires short { length file.now ≤ 268435456 }
+    requires short { length file.now ≤ FILE_BYTES }
     requires few { length pieces.now ≤ 4096 }
     requires within { All (LiesBetween 0 (length file.now)) pieces.now }
     ensures { IfOk result (λ plans. ArePlans schema.now file.now 1 pieces.now texts.old texts.new (map (λ text. text.items) plans.texts.items) plans.refused) }

@@ -11,7 +11,7 @@ ghost use Rattle.typed_query.specs.WellFormed.{IsWellFormed};
 ghost use Rattle.result_collect.specs.Contexts as contexts;
 ghost use Rattle.result_collect.specs.Contexts.{StandForEach};
 
-use adfs_base::{Kind, NoMemory, Value};
+use adfs_base::{CONTEXT_WORDS, Kind, NoMemory, Value};
 use answer_rows::{Match, Row, rows_in_order};
 use element_store::value_from;
 use match_context::Context;
@@ -32,7 +32,7 @@ fn kind_of(what: What) -> Kind
 }
 
 fn numbers_in(alloc: Global, context: &Context, variables: usize) -> Result<Vec<u32>, NoMemory>
-    requires { variables < 40 }
+    requires { variables < CONTEXT_WORDS }
     ensures { IfOk result (λ numbers. numbers.items ≡ map (number_in context.now.words) (range_with_len 0 variables)) }
 {
     let mut numbers = Vec::with_capacity(alloc, variables)?;
@@ -49,7 +49,7 @@ fn read_values(
     captures: &[Capture],
     values: &mut Vec<Value>,
 ) -> Result<(), NoMemory>
-    requires { 1 + variables + length captures.now ≤ 40 }
+    requires { 1 + variables + length captures.now ≤ CONTEXT_WORDS }
     ensures { OnOk result (values.new.items ≡ contexts.values_from context.now.words variables 0 captures.now) }
 {
     values.clear();
@@ -73,7 +73,7 @@ fn add_match(
     values: &mut Vec<Value>,
     matches: &mut Vec<Match>,
 ) -> Result<(), NoMemory>
-    requires { 1 + length query.now.variables + length query.now.captures ≤ 40 }
+    requires { 1 + length query.now.variables + length query.now.captures ≤ CONTEXT_WORDS }
     ensures { OnOk result (matches.new.items ≡ matches.old.items ++ contexts.shown_in texts.now query.now context.now ∷ []) }
 {
     let variables = query.variables.as_slice().len();
@@ -89,7 +89,7 @@ fn matches_in(
     query: &Query,
     texts: &Texts,
 ) -> Result<Vec<Match>, NoMemory>
-    requires { 1 + length query.now.variables + length query.now.captures ≤ 40 }
+    requires { 1 + length query.now.variables + length query.now.captures ≤ CONTEXT_WORDS }
     ensures { IfOk result (λ found. found.items ≡ map (contexts.shown_in texts.now query.now) rows.now) }
 {
     let mut matches = Vec::with_capacity(alloc, rows.len())?;
@@ -109,7 +109,7 @@ fn rows_shown(
     query: &Query,
     texts: &Texts,
 ) -> Result<Vec<Row>, NoMemory>
-    requires { 1 + length query.now.variables + length query.now.captures ≤ 40 }
+    requires { 1 + length query.now.variables + length query.now.captures ≤ CONTEXT_WORDS }
     ensures { IfOk result (λ found. found.items ≡ rows_of texts.now (arrangement_of query.now) (map (contexts.shown_in texts.now query.now) rows.items)) }
 {
     let arrangement = arrangement_of(alloc, query)?;
@@ -128,7 +128,7 @@ pub fn collect(
     query: &Query,
     texts: &Texts,
 ) -> Result<Vec<Row>, NoMemory>
-    requires { 1 + length query.now.variables + length query.now.captures ≤ 40 }
+    requires { 1 + length query.now.variables + length query.now.captures ≤ CONTEXT_WORDS }
     ensures shown { IfOk result (λ found. found.items ≡ rows_of texts.now (arrangement_of query.now) (map (contexts.shown_in texts.now query.now) rows.items)) }
     ensures answer { IfOk result (λ found. (graph : PropertyGraph) (matches : List (List ℕ)) → StandForEach graph query.now rows.items matches → IsPermutation (all_matches texts.now graph query.now) matches → HasShown texts.now graph → HasMeaning texts.now query.now → IsWellFormed query.now → found.items ≡ answer_of texts.now graph query.now) }
 {

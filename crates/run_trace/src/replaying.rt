@@ -7,7 +7,7 @@ ghost use Rattle.world_core.specs.World.{Fits, start_world};
 ghost use Rattle.run_trace.specs.Replay.{Taken, event_on, finish, greater, line_number, replayed, with_event};
 ghost use Rattle.run_trace.specs.Runs.{begun};
 
-use adfs_base::Shape;
+use adfs_base::{FILE_BYTES, Shape};
 use match_context::Expand;
 use std::alloc::Global;
 use text_lines::Lines;
@@ -101,7 +101,7 @@ fn says_finished(line: &[u8]) -> bool
 // The lines from here on, in a world of that start.
 fn replay_lines<X: Expand>(world: &mut World, x: &X, text: &[u8]) -> Result<Replayed, ReplayFault>
     requires fits { Fits (X.tree x.now) world.old.shared }
-    requires short { length text.now ≤ 268435456 }
+    requires short { length text.now ≤ FILE_BYTES }
     ensures exact { Gives (λ told. told) result (replayed (X.tree x.now) (lines text.now) world.old (begun world.old)) }
 {
     let mut so_far = Replayed {
@@ -137,7 +137,7 @@ pub fn replay<X: Expand>(
     requires stages { shape.now.stages ≡ (X.tree x.now).stages }
     requires machines { shape.now.machines ≡ (X.tree x.now).machines }
     requires place { from ≤ length bytes.now }
-    requires short { length bytes.now ≤ 268435456 }
+    requires short { length bytes.now ≤ FILE_BYTES }
     ensures exact { Gives (λ told. told) result (replayed (X.tree x.now) (lines (drop from bytes.now)) (start_world shape.now (X.tree x.now)) (begun (start_world shape.now (X.tree x.now)))) }
 {
     let mut world = World::new(alloc, x, shape)?;

@@ -31,6 +31,8 @@ fn put_three(kind: &str, w: u32, a: u32, b: u32, out: &mut Vec<u8>) -> Result<()
 }
 
 /// Writes the event's line after what is there, without a line feed.
+///
+/// After `NoMemory` a front of the line may stand there, so what was written is of no use.
 pub fn put_event(event: &Event, out: &mut Vec<u8>) -> Result<(), NoMemory>
     ensures { OnOk result (out.new.items ≡ out.old.items ++ event_line event.now) }
 {

@@ -54,6 +54,8 @@ fn put_part(part: &PartWord, out: &mut Vec<u8>) -> Result<(), NoMemory>
 }
 
 /// Writes the five lines after what is there.
+///
+/// After `NoMemory` a front of them may stand there, so what was written is of no use.
 pub fn put_header(header: &Header, out: &mut Vec<u8>) -> Result<(), NoMemory>
     ensures { OnOk result (out.new.items ≡ out.old.items ++ with_feeds (header_lines header.now)) }
 {

@@ -136,7 +136,9 @@ pub meant-Name : (schema : SchemaLists) (variables : List Declared) (captures : 
 unfolding meant
 meant-Name schema variables captures texts whole name at is = fold-Name Expr (meant_of schema variables captures texts) whole name at is
 
-pub meant-Property : (schema : SchemaLists) (variables : List Declared) (captures : List Capture) (texts : List (List ℕ)) (whole : AstExpr) (variable property : List ℕ) (at : ℕ) → whole ≡ ast.Property variable property at → meant schema variables captures texts whole ≡ captured captures (property_use schema property (variable_of variables variable))
+pub meant-Property : (schema : SchemaLists) (variables : List Declared) (captures : List Capture) (texts : List (List ℕ)) (whole : AstExpr) (variable property : List ℕ) (at : ℕ)
+    → whole ≡ ast.Property variable property at
+    → meant schema variables captures texts whole ≡ captured captures (property_use schema property (variable_of variables variable))
 unfolding meant
 meant-Property schema variables captures texts whole variable property at is = fold-Property Expr (meant_of schema variables captures texts) whole variable property at is
 
@@ -144,7 +146,9 @@ pub meant-Id : (schema : SchemaLists) (variables : List Declared) (captures : Li
 unfolding meant
 meant-Id schema variables captures texts whole variable at is = fold-Id Expr (meant_of schema variables captures texts) whole variable at is
 
-pub meant-Label : (schema : SchemaLists) (variables : List Declared) (captures : List Capture) (texts : List (List ℕ)) (whole : AstExpr) (variable : Placed) (at : ℕ) → whole ≡ ast.Label variable at → meant schema variables captures texts whole ≡ captured captures (use_of what.Label (variable_of variables variable.name))
+pub meant-Label : (schema : SchemaLists) (variables : List Declared) (captures : List Capture) (texts : List (List ℕ)) (whole : AstExpr) (variable : Placed) (at : ℕ)
+    → whole ≡ ast.Label variable at
+    → meant schema variables captures texts whole ≡ captured captures (use_of what.Label (variable_of variables variable.name))
 unfolding meant
 meant-Label schema variables captures texts whole variable at is = fold-Label Expr (meant_of schema variables captures texts) whole variable at is
 
@@ -156,10 +160,14 @@ pub meant-Neg : (schema : SchemaLists) (variables : List Declared) (captures : L
 unfolding meant
 meant-Neg schema variables captures texts whole inside at is = fold-Neg Expr (meant_of schema variables captures texts) whole inside at is
 
-pub meant-IsNull : (schema : SchemaLists) (variables : List Declared) (captures : List Capture) (texts : List (List ℕ)) (whole : AstExpr) (inside : AstExpr) (negated : Bool) (at : ℕ) → whole ≡ ast.IsNull inside negated at → meant schema variables captures texts whole ≡ expr.IsNull (meant schema variables captures texts inside) negated
+pub meant-IsNull : (schema : SchemaLists) (variables : List Declared) (captures : List Capture) (texts : List (List ℕ)) (whole : AstExpr) (inside : AstExpr) (negated : Bool) (at : ℕ)
+    → whole ≡ ast.IsNull inside negated at
+    → meant schema variables captures texts whole ≡ expr.IsNull (meant schema variables captures texts inside) negated
 unfolding meant
 meant-IsNull schema variables captures texts whole inside negated at is = fold-IsNull Expr (meant_of schema variables captures texts) whole inside negated at is
 
-pub meant-Binary : (schema : SchemaLists) (variables : List Declared) (captures : List Capture) (texts : List (List ℕ)) (whole : AstExpr) (op : Op) (left right : AstExpr) (at : ℕ) → whole ≡ ast.Binary op left right at → meant schema variables captures texts whole ≡ expr.Binary op (meant schema variables captures texts left) (meant schema variables captures texts right)
+pub meant-Binary : (schema : SchemaLists) (variables : List Declared) (captures : List Capture) (texts : List (List ℕ)) (whole : AstExpr) (op : Op) (left right : AstExpr) (at : ℕ)
+    → whole ≡ ast.Binary op left right at
+    → meant schema variables captures texts whole ≡ expr.Binary op (meant schema variables captures texts left) (meant schema variables captures texts right)
 unfolding meant
 meant-Binary schema variables captures texts whole op left right at is = fold-Binary Expr (meant_of schema variables captures texts) whole op left right at is

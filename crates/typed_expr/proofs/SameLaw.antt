@@ -200,7 +200,9 @@ told-Binary o l r s left right b = by_layer (out-AstExpr b) refl
     by_layer (AstExpr-F.Binary o' l' r' at) is =
         let both = bare.same-Binary (ast.Binary o l r s) b o l r o' l' r' s at refl (layered b (AstExpr-F.Binary o' l' r' at) (ast.Binary o' l' r' at) is (ast.rolls-Binary o' l' r' at)) in
         told (ast.Binary o l r s) b (same_op o o' && same l l' && same r r') (((o ≡ o') × (bare l ≡ bare l')) × (bare r ≡ bare r'))
-        (sym (test.same-Binary (ast.Binary o l r s) b o l r s (sides (out-AstExpr b)) refl refl) ∙ ap (λ f. is_binary o (same l) (same r) (sides f)) is) (Decides-and (same_op o o' && same l l') (same r r') (Decides-and (same_op o o') (same l l') (Decides-same_op o o') (left l')) (right r')) (λ e. both.0 e.0.0 e.0.1 e.1) (λ e. let parts = both.1 e in ((parts.0, parts.1), parts.2))
+        (sym (test.same-Binary (ast.Binary o l r s) b o l r s (sides (out-AstExpr b)) refl refl) ∙ ap (λ f. is_binary o (same l) (same r) (sides f)) is)
+        (Decides-and (same_op o o' && same l l') (same r r') (Decides-and (same_op o o') (same l l') (Decides-same_op o o') (left l')) (right r'))
+        (λ e. both.0 e.0.0 e.0.1 e.1) (λ e. let parts = both.1 e in ((parts.0, parts.1), parts.2))
     by_layer other is =
         not_told (ast.Binary o l r s) b (sym (test.same-Binary (ast.Binary o l r s) b o l r s (sides (out-AstExpr b)) refl refl) ∙ ap (λ f. is_binary o (same l) (same r) (sides f)) is)
         (bare.other-Binary (ast.Binary o l r s) b o l r s refl (λ o' l' r' at b_is. let f : ◌≡◌ {A = AstExpr-F AstExpr} other (AstExpr-F.Binary o' l' r' at) = sym is ∙ ap out-AstExpr b_is ∙ ast.outs-Binary o' l' r' at in cc))

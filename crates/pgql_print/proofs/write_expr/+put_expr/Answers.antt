@@ -16,7 +16,9 @@ put_own-returns-in-Text t c = on_ok_weaker c.put_quoted.result (λ wrote. one_wr
     (ap (λ x. spelled x (own_level x)) c.in-Text.is ∙ alone-Text c.in-Text.content c.in-Text.at)) c.put_quoted.ensures
 
 pub put_own-returns-in-Date : goal.put_own-returns-in-Date
-put_own-returns-in-Date t c = on_ok_weaker c.put_date.result (λ wrote. one_write c.args.out.now.items c.put_date.new.out.items (codes "DATE " ++ quoted c.in-Date.content) (spelled c.args.x.now (own_level c.args.x.now)) (wrote ∙ ap (λ v. c.args.out.now.items ++ (codes "DATE " ++ quoted v)) c.as_slice-in-Date.ensures)
+put_own-returns-in-Date t c =
+    on_ok_weaker c.put_date.result (λ wrote. one_write c.args.out.now.items c.put_date.new.out.items (codes "DATE " ++ quoted c.in-Date.content)
+    (spelled c.args.x.now (own_level c.args.x.now)) (wrote ∙ ap (λ v. c.args.out.now.items ++ (codes "DATE " ++ quoted v)) c.as_slice-in-Date.ensures)
     (ap (λ x. spelled x (own_level x)) c.in-Date.is ∙ alone-Date c.in-Date.content c.in-Date.at)) c.put_date.ensures
 
 pub put_own-returns-in-Bool : goal.put_own-returns-in-Bool
