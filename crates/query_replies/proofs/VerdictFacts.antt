@@ -1,5 +1,6 @@
 -- What comes of a text, from what its parts came to.
 use Rattle.std.proofs.Common.{◌≡◌, ◌≢◌, ℕ, ◌≤◌, nat_lt, Bool, true, false, if◌then◌else◌, List, Result, Ok, Err, IfOk, is_err, refl, sym, ap, subst, ◌∙◌, arith}
+use Rattle.std.proofs.lemmas.Grind.{common_steps}
 use Rattle.adfs_base.specs.declared.limits.TheConstants.{CONTEXT_WORDS}
 use Rattle.adfs_base.specs.declared.name.NoMemory.{NoMemory}
 use Rattle.graph_tables.specs.Graph.{PropertyGraph}
@@ -34,10 +35,13 @@ plan_by : (query : Query) (plan : Course) (wide : Bool) → ◌≡◌ {A = Resul
 plan_by query plan true is = absurd cc
 plan_by query plan false is = (refl, cc)
 
+not_wide : (most words : ℕ) → nat_lt most words ≡ false → words ≤ most
+not_wide most words is = grind (arith, common_steps)
+
 pub has_plan : (query : Query) (plan : Course) → planned query ≡ Ok plan → HasPlan query plan
 has_plan query plan is =
     let both = plan_by query plan (nat_lt CONTEXT_WORDS (words_of query)) is in
-    record { planned_so = is; plan_is = both.1; room = omega (arith, both.0) }
+    record { planned_so = is; plan_is = both.1; room = not_wide CONTEXT_WORDS (words_of query) both.0 }
 
 pub too_wide : (number : ℕ) (query : Query) (words : ℕ) (result : Result Verdict NoMemory) → planned query ≡ Err (planning.TooWide words)
     → IfOk result (IsRefusal (refusal_text number (refusal.TooWide words))) → IfOk result (IsPlanVerdict number query)
