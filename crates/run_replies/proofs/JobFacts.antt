@@ -1,5 +1,5 @@
 -- What the queries of a run are answered over, and that their replies do the work.
-use Rattle.std.proofs.Common.{◌≡◌, ℕ, ◌<◌, ◌≤◌, ◌^◌, Bool, List, length, refl, sym, subst, arith}
+use Rattle.std.proofs.Common.{◌≡◌, ℕ, ◌<◌, ◌≤◌, ◌^◌, Bool, List, length, Result, Ok, Err, IfOk, subst, arith}
 use Rattle.std.specs.List.{AllByRecursion}
 use Rattle.cli_words.specs.Ranges.{IsWithinLimits}
 use Rattle.cli_words.specs.declared.command.Command.{Command}
@@ -18,6 +18,11 @@ use Rattle.serial_run.specs.Engines.{ArePartsOf, HasItsValues}
 use Rattle.run_replies.specs.Jobs.{Asks, GoesOver, IsAnswered, IsLoadedOf}
 use Rattle.run_replies.specs.Outcome.{IsDoneBy, schema_of, without_texts, work_on}
 use Rattle.run_replies.specs.declared.job.Loaded.{Loaded}
+
+-- what holds of what is given
+pub if_ok : {X E : Type 0} (P Q : X → Type 0) → ((x : X) → P x → Q x) → (result : Result X E) → IfOk result P → IfOk result Q
+if_ok P Q leads (Ok x) holds = leads x holds
+if_ok P Q leads (Err e) holds = holds
 
 -- the graph of the tables means something under their texts, and its values have their properties' kinds
 pub values_of : (graph : PropertyGraph) → IsWhole graph → HasItsValues graph.texts (schema_of graph) (without_texts graph)
