@@ -11,7 +11,7 @@ use Rattle.plan_tree.specs.PlanTree.{PlanOverParts}
 use Rattle.stage_plan.specs.Plans.{plan_of, words_of}
 use Rattle.typed_query.specs.WellFormed.{IsWellFormed}
 use Rattle.typed_query.specs.declared.query.Query.{Query}
-use Rattle.serial_run.specs.Engines.{ArePartsOf, IsAsked, Machines}
+use Rattle.serial_run.specs.Engines.{ArePartsOf, IsAsked, IsAskedOfSome, Machines, machines_of, with_stages}
 use Rattle.serial_run.specs.Jobs.{IsJob}
 
 pub are_parts : (graph : PropertyGraph) (machines : ℕ) (parts : List MachinePart) → ArePartsOf graph machines parts → AreParts parts
@@ -68,3 +68,14 @@ module _ (texts : List (List ℕ)) (schema : SchemaLists) (graph : PropertyGraph
       → IsJob over schema graph
   job_of over is asked well room meaning few_texts =
       subst (λ o. IsJob o schema graph) (sym is) (job asked well room meaning few_texts)
+
+-- what is asked doesn't rest on the number of stages
+pub any_stages : (texts : List (List ℕ)) (schema : SchemaLists) (graph : PropertyGraph) (engine : Machines) (query : Query) (stages : ℕ)
+    → IsAsked texts schema graph engine query → IsAsked texts schema graph (machines_of engine.parts (with_stages engine.shape stages)) query
+any_stages texts schema graph engine query stages asked =
+    record { over = record { values = asked.over.values; parts_of = asked.over.parts_of }; kinds = asked.kinds }
+
+pub any_stages-some : (texts : List (List ℕ)) (engine : Machines) (query : Query) (stages : ℕ)
+    → IsAskedOfSome texts engine query → IsAskedOfSome texts (machines_of engine.parts (with_stages engine.shape stages)) query
+any_stages-some texts engine query stages some =
+    record { schema = some.schema; graph = some.graph; asked = any_stages texts some.schema some.graph engine query stages some.asked }

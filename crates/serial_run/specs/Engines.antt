@@ -16,6 +16,9 @@ pub record Machines : Type 0 where
   pub parts : List MachinePart
   pub shape : Extents
 
+abbrev pub machines_of : List MachinePart → Extents → Machines
+machines_of parts shape = record { parts = parts; shape = shape }
+
 -- the shape with as many stages as these
 abbrev pub with_stages : Extents → ℕ → Extents
 with_stages shape stages = record shape { stages = stages }

@@ -1,14 +1,15 @@
 //! The parts of a graph with the numbers of a run.
-ghost use Rattle.std.specs.Prelude.{◌≡◌, ◌≤◌, IfOk};
+ghost use Rattle.std.specs.Prelude.{◌≡◌, ◌<◌, ◌≤◌, ◌^◌, IfOk, length};
 ghost use Rattle.adfs_base.specs.declared.limits.TheConstants.{CONTEXT_WORDS};
 ghost use Rattle.graph_tables.specs.Graph.{PropertyGraph};
 ghost use Rattle.graph_tables.specs.Properties.{SchemaLists};
+ghost use Rattle.hop_kernels.specs.PlanTrees.{over_of};
 ghost use Rattle.pgql_meaning.specs.Answer.{answer_of};
 ghost use Rattle.pgql_meaning.specs.Shown.{HasMeaning};
 ghost use Rattle.result_collect.specs.Replies.{reply_text};
 ghost use Rattle.stage_plan.specs.Plans.{plan_of, words_of};
 ghost use Rattle.typed_query.specs.WellFormed.{IsWellFormed};
-ghost use Rattle.serial_run.specs.Engines.{IsAsked, IsAskedOfSome};
+ghost use Rattle.serial_run.specs.Engines.{IsAsked, IsAskedOfSome, machines_of};
 
 use crate::answer::{reply_by_core, with_stages};
 use adfs_base::{NoMemory, Shape};
@@ -36,6 +37,39 @@ impl Model for Engine {
     ghost Value = { Machines };
 
     ghost view = { λ e. record { parts = e.parts.items; shape = e.shape } };
+}
+
+// The parts of a tree. Its plan and query go.
+fn parts_of(tree: PlanTree<'_>) -> Vec<Part>
+    ensures { result.items ≡ (over_of tree.entry).parts }
+{
+    let (parts, _plan, _query) = tree.take_apart();
+    parts
+}
+
+// The reply to the query of this number, by a run of the core over these parts, which are given back.
+fn reply_over(
+    alloc: Global,
+    number: u32,
+    parts: Vec<Part>,
+    plan: Plan,
+    query: Query,
+    texts: &Texts,
+    shape: &Shape,
+) -> (Vec<Part>, Result<Vec<u8>, NoMemory>)
+    requires plan { plan ≡ plan_of query }
+    requires stages { shape.now.stages ≡ length plan.stages }
+    requires well { IsWellFormed query }
+    requires room { words_of query ≤ CONTEXT_WORDS }
+    requires meaning { HasMeaning texts.now query }
+    requires few { length texts.now < 2 ^ 32 }
+    requires asked { IsAskedOfSome texts.now (machines_of parts.items shape.now) query }
+    ensures text { (schema : SchemaLists) (graph : PropertyGraph) → IsAsked texts.now schema graph (machines_of parts.items shape.now) query → IfOk result.1 (λ text. text.items ≡ reply_text texts.now number query (answer_of texts.now graph query)) }
+    ensures parts { result.0.items ≡ parts.items }
+{
+    let tree = PlanTree::new(parts, plan, query, texts);
+    let reply = reply_by_core(alloc, number, &tree, texts, shape);
+    (parts_of(tree), reply)
 }
 
 impl Engine {
@@ -68,9 +102,7 @@ impl Engine {
         let _count = texts.len();
         let shape = with_stages(&self.shape, plan.stages());
         let parts = replace(&mut self.parts, Vec::new(alloc));
-        let tree = PlanTree::new(parts, plan, query, texts);
-        let reply = reply_by_core(alloc, number, &tree, texts, &shape);
-        let (parts, _plan, _query) = tree.take_apart();
+        let (parts, reply) = reply_over(alloc, number, parts, plan, query, texts, &shape);
         self.parts = parts;
         reply
     }
