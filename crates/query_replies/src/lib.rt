@@ -9,5 +9,6 @@
 
 mod answers;
 mod faults;
+pub mod laws;
 
 pub use answers::{Replies, answer_queries, plan_queries};
