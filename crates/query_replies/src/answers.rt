@@ -84,7 +84,7 @@ fn rows_text(
 {
     let rows = answer_plain(alloc, graph, texts, query)?;
     let mut text = Vec::new(alloc);
-    put_reply(number, query, &rows, texts, &mut text)?;
+    put_reply(alloc, number, query, &rows, texts, &mut text)?;
     Ok(text)
 }
 

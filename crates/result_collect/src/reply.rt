@@ -9,6 +9,7 @@ ghost use Rattle.pgql_meaning.specs.Shown.{AreShown};
 
 use adfs_base::{Name, NoMemory, Value};
 use answer_rows::Row;
+use std::alloc::Global;
 use typed_query::{Expr, Query};
 use value_text::{Texts, put_text, put_value};
 
@@ -186,7 +187,10 @@ fn append_reply(
 
 /// Appends the reply to the query of this number: how many rows there are, the names of the columns, and the
 /// rows. After `NoMemory` the bytes are as before.
+///
+/// It takes memory for `out` alone, which grows by the allocator that it was made with.
 pub fn put_reply(
+    _alloc: Global,
     number: u32,
     query: &Query,
     rows: &[Row],
