@@ -20,7 +20,7 @@ use Rattle.query_replies.specs.Replies.{AreAnswers, Answering, IsAnswer, IsReadi
 -- ---- a text has one tree or one fault
 
 module _ (most base : ℕ) (text : List ℕ) where
-  -- want of memory is no answer
+  -- that memory ran out is no answer
   never_memory : answer most base text ≡ Err syntax.NoMemory → ⊥
   unfolding answer
   never_memory = by_tokens (tokens base text) where

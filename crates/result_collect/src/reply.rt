@@ -22,7 +22,7 @@ fn append_value(value: &Value, texts: &Texts, out: &mut Vec<u8>) -> Result<(), N
     put_value(value, texts, out)
 }
 
-// A value behind another.
+// A value after another.
 #[tactic(auto, using(crate::proofs::Growing::grows_on, crate::proofs::Growing::grows_same))]
 fn append_next_value(value: &Value, texts: &Texts, out: &mut Vec<u8>) -> Result<(), NoMemory>
     requires { IsValid texts.now value.now }
@@ -91,7 +91,7 @@ fn append_name(name: &Name, out: &mut Vec<u8>) -> Result<(), NoMemory>
     put_text(name.text().as_bytes(), out)
 }
 
-// A name behind another.
+// A name after another.
 #[tactic(auto, using(crate::proofs::Growing::grows_on, crate::proofs::Growing::grows_same))]
 fn append_next_name(name: &Name, out: &mut Vec<u8>) -> Result<(), NoMemory>
     ensures ok { OnOk result (out.new.items ≡ out.old.items ++ 44 ∷ shown_text name.now) }
@@ -147,7 +147,7 @@ fn append_number(number: u64, out: &mut Vec<u8>) -> Result<(), NoMemory>
     Ok(())
 }
 
-// A word and a number behind it.
+// A word and a number after it.
 #[tactic(auto, using(crate::proofs::Growing::grows_on, crate::proofs::Growing::grows_same))]
 fn append_counted(word: &[u8], number: u64, out: &mut Vec<u8>) -> Result<(), NoMemory>
     ensures ok { OnOk result (out.new.items ≡ out.old.items ++ (word.now ++ decimal number)) }
