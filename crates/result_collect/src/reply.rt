@@ -208,3 +208,19 @@ pub fn put_reply(
     }
     Ok(())
 }
+
+/// Appends the line of a row: its values, with a comma between two of them. After `NoMemory` the bytes are as before.
+///
+/// It takes memory for `out` alone, as `put_reply` does.
+pub fn put_row(_alloc: Global, row: &Row, texts: &Texts, out: &mut Vec<u8>) -> Result<(), NoMemory>
+    requires { AllByRecursion (IsValid texts.now) row.now }
+    ensures ok { OnOk result (out.new.items ≡ out.old.items ++ row_text texts.now row.now) }
+    ensures err { OnErr result (out.new.items ≡ out.old.items) }
+{
+    let start = out.len();
+    if append_row(row, texts, out).is_err() {
+        out.truncate(start);
+        return Err(NoMemory);
+    }
+    Ok(())
+}
