@@ -217,9 +217,9 @@ pub fn put_row(_alloc: Global, row: &Row, texts: &Texts, out: &mut Vec<u8>) -> R
     ensures ok { OnOk result (out.new.items ≡ out.old.items ++ row_text texts.now row.now) }
     ensures err { OnErr result (out.new.items ≡ out.old.items) }
 {
-    let start = out.len();
+    let before = out.len();
     if append_row(row, texts, out).is_err() {
-        out.truncate(start);
+        out.truncate(before);
         return Err(NoMemory);
     }
     Ok(())
