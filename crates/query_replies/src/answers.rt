@@ -154,14 +154,14 @@ fn reply_to_tree(
     schema: &Schema,
     texts: &mut Texts,
     number: u32,
-    ast: &Ast,
+    ast: Ast,
 ) -> Result<Reply, NoMemory>
     requires shown { IsMeant texts.old asked }
-    requires paths { 0 < length ast.now.paths }
-    ensures reply { (base : ℕ) (text : List ℕ) → IsTree 64 base text ast.now → IfOk result (λ reply. IsAnswer (answering asked.entry) schema.now number base text texts.old texts.new reply.text.items reply.refused) }
+    requires paths { 0 < length ast.paths }
+    ensures reply { (base : ℕ) (text : List ℕ) → IsTree 64 base text ast → IfOk result (λ reply. IsAnswer (answering asked.entry) schema.now number base text texts.old texts.new reply.text.items reply.refused) }
     ensures shown { OnOk result (IsMeant texts.new asked.entry) }
 {
-    if !has_numbers(texts, ast) {
+    if !has_numbers(texts, &ast) {
         return Err(NoMemory);
     }
     match type_query(alloc, ast, schema, texts) {
@@ -189,7 +189,7 @@ fn reply_to_text(
         Ok(ast) => {
             // What this promises says that the query is well-formed.
             trees_have_paths();
-            reply_to_tree(alloc, asked, schema, texts, number, &ast)
+            reply_to_tree(alloc, asked, schema, texts, number, ast)
         }
         Err(fault) => refused(alloc, number, refusal_of_syntax(fault)?),
     }

@@ -15,7 +15,7 @@ use pattern_scope::fault::TypeFault;
 use pattern_scope::joined::add_disconnected;
 use pattern_scope::scope::Scope;
 use pgql_tree::{Ast, AstExpr, Item, Key, Placed};
-use sqlite_items::Items;
+use sqlite_items::{Boxed, Items};
 use std::alloc::Global;
 use value_text::Texts;
 
@@ -56,12 +56,13 @@ fn add_item_faults(
 
 fn add_double_name(
     earlier: &Declarations,
-    name: &Option<Placed>,
+    name: &Option<Boxed<Placed>>,
     faults: &mut Items<TypeFault>,
 ) -> Result<(), NoMemory>
     ensures { (items : List Item) → earlier.now ≡ map spec.as_declared items → OnOk result (faults.new ≡ faults.old ++ spec.double_name items name.now) }
 {
     if let Some(placed) = name {
+        let placed = placed.get();
         if earlier.variable_of(&placed.name).is_some() {
             faults.push(TypeFault::DoubleName(placed.at))?;
         }

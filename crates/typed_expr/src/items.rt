@@ -5,7 +5,7 @@ ghost use Rattle.typed_expr.specs.Typed as spec;
 
 use adfs_base::{Name, NoMemory};
 use pattern_scope::declarations::Declarations;
-use pattern_scope::scope::{Declared, name_of};
+use pattern_scope::scope::{Declared, boxed};
 use pgql_tree::{AstExpr, Item};
 use sqlite_items::at;
 use std::alloc::Global;
@@ -22,7 +22,7 @@ pub fn add_name(alloc: Global, item: &Item, names: &mut Declarations) -> Result<
     ensures { OnOk result (names.new ≡ names.old ++ spec.as_declared item.now ∷ []) }
 {
     let name = match &item.name {
-        Some(placed) => name_of(alloc, Some(&placed.name))?,
+        Some(placed) => Some(boxed(alloc, &placed.get().name)?),
         None => None,
     };
     names.push(Declared { name, edge: false })
