@@ -1,5 +1,5 @@
 -- Texts that stand in place where they are short.
-use Rattle.std.specs.Prelude.{◌×◌, ◌≤◌, List, ℕ, Unit, take}
+use Rattle.std.specs.Prelude.{◌≤◌, List, ℕ, take}
 use Rattle.std.specs.Str.{IsUtf8}
 use Rattle.std.specs.String.{string_bytes}
 use Rattle.adfs_base.specs.declared.short_text.ShortText.{ShortText}

@@ -29,7 +29,7 @@ fn leaf_of(expr: AstExpr) -> Found
 /// The name alone.
 fn plain(alloc: Global, t: Lexeme<'_>) -> Result<Found, Stop>
     requires { is_word t.kind ≡ true }
-    ensures made { Makes (spec.found (AstExpr.Name (told t.entry).bytes (told t.entry).at) 0) result }
+    ensures made { Makes (spec.found (AstExpr.Name (told t.entry).at (told t.entry).bytes) 0) result }
     ensures low { IfOk result (λ x. x.height ≡ 0) }
 {
     Ok(leaf_of(AstExpr::Name {
@@ -42,7 +42,7 @@ fn plain(alloc: Global, t: Lexeme<'_>) -> Result<Found, Stop>
 fn property_of(alloc: Global, t: Lexeme<'_>, p: Lexeme<'_>) -> Result<Found, Stop>
     requires variable { is_word t.kind ≡ true }
     requires property { is_word p.kind ≡ true }
-    ensures made { Makes (spec.found (AstExpr.Property (told t.entry).bytes (told p.entry).bytes (told t.entry).at) 0) result }
+    ensures made { Makes (spec.found (AstExpr.Property (told t.entry).at (told t.entry).bytes (told p.entry).bytes) 0) result }
     ensures low { IfOk result (λ x. x.height ≡ 0) }
 {
     let variable = t.boxed_name(alloc)?;

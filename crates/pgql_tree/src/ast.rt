@@ -73,6 +73,9 @@ pub struct Key {
 }
 
 /// An expression.
+///
+/// A node takes 24 bytes: fields lie in this order, small ones first where there are two others, and what is greater
+/// stands in memory of its own.
 #[derive(Drop)]
 pub enum AstExpr {
     /// A number as it is written, so never below 0.
@@ -96,14 +99,14 @@ pub enum AstExpr {
     },
     /// A variable or an AS name, alone.
     Name {
-        name: Name,
         at: u32,
+        name: Name,
     },
     /// `variable.property`
     Property {
+        at: u32,
         variable: Boxed<Name>,
         property: Boxed<Name>,
-        at: u32,
     },
     /// `id(variable)`
     Id {
@@ -133,9 +136,9 @@ pub enum AstExpr {
     /// Two sides with an operator between them.
     Binary {
         op: Op,
+        at: u32,
         left: Boxed<AstExpr>,
         right: Boxed<AstExpr>,
-        at: u32,
     },
 }
 

@@ -81,7 +81,7 @@ fn is_bool(x: &AstExpr, truth: bool) -> bool
 
 /// Whether the expression is this name.
 fn is_name(x: &AstExpr, name: &Name) -> bool
-    ensures { IsTrue result ↔ (spec.bare x.now ≡ spec.bare (e.Name name.now 0)) }
+    ensures { IsTrue result ↔ (spec.bare x.now ≡ spec.bare (e.Name 0 name.now)) }
 {
     match x {
         AstExpr::Name { name: other, .. } => same_name(other, name),
@@ -89,9 +89,15 @@ fn is_name(x: &AstExpr, name: &Name) -> bool
     }
 }
 
+fn same_boxed(a: &Boxed<Name>, b: &Boxed<Name>) -> bool
+    ensures { IsTrue result ↔ (a.now ≡ b.now) }
+{
+    same_name(a.get(), b.get())
+}
+
 /// Whether the expression is this property of this variable.
 fn is_property(x: &AstExpr, variable: &Boxed<Name>, property: &Boxed<Name>) -> bool
-    ensures { IsTrue result ↔ (spec.bare x.now ≡ spec.bare (e.Property variable.now property.now 0)) }
+    ensures { IsTrue result ↔ (spec.bare x.now ≡ spec.bare (e.Property 0 variable.now property.now)) }
 {
     match x {
         AstExpr::Property {
@@ -99,10 +105,10 @@ fn is_property(x: &AstExpr, variable: &Boxed<Name>, property: &Boxed<Name>) -> b
             property: other_property,
             ..
         } => {
-            if !same_name(other_variable.get(), variable.get()) {
+            if !same_boxed(other_variable, variable) {
                 return false;
             }
-            same_name(other_property.get(), property.get())
+            same_boxed(other_property, property)
         }
         _ => false,
     }
@@ -185,7 +191,7 @@ fn is_null_test(x: &AstExpr, inside: &AstExpr, negated: bool) -> bool
 /// Whether the expression is this operator between these two.
 #[cycle(same_expr)]
 fn is_binary(x: &AstExpr, op: Op, left: &AstExpr, right: &AstExpr) -> bool
-    ensures { IsTrue result ↔ (spec.bare x.now ≡ spec.bare (e.Binary op left.now right.now 0)) }
+    ensures { IsTrue result ↔ (spec.bare x.now ≡ spec.bare (e.Binary op 0 left.now right.now)) }
 {
     match x {
         AstExpr::Binary {
