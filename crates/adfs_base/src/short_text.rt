@@ -13,10 +13,7 @@ const SHORT: usize = 14;
 #[derive(Drop, Debug)]
 pub enum ShortText {
     /// The first `length` bytes.
-    InPlace {
-        bytes: [u8; 14],
-        length: u8,
-    },
+    InPlace { bytes: [u8; 14], length: u8 },
     Away(Box<String>),
 }
 

@@ -107,12 +107,7 @@ impl Scope {
     }
 
     // Adds a label list of a variable, if it isn't empty.
-    fn add_labels(
-        &mut self,
-        alloc: Global,
-        number: usize,
-        labels: &Labels,
-    ) -> Result<(), NoMemory>
+    fn add_labels(&mut self, alloc: Global, number: usize, labels: &Labels) -> Result<(), NoMemory>
         ensures { OnOk result (self.new ≡ spec.with_labels self.old number labels.now) }
     {
         let labels = labels.as_slice();

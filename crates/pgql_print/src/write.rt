@@ -41,7 +41,11 @@ fn put_name_or_none(out: &mut Vec<u8>, name: &Option<Boxed<Placed>>) -> Result<(
 }
 
 /// What stands inside a vertex or edge pattern.
-fn put_spec(out: &mut Vec<u8>, name: &Option<Boxed<Placed>>, labels: &[Name]) -> Result<(), AllocError>
+fn put_spec(
+    out: &mut Vec<u8>,
+    name: &Option<Boxed<Placed>>,
+    labels: &[Name],
+) -> Result<(), AllocError>
     ensures { OnOk result (out.new.items ≡ out.old.items ++ spec.spec_text name.now labels.now) }
 {
     put_name_or_none(out, name)?;

@@ -187,11 +187,7 @@ fn put_property(
 }
 
 /// A name behind a function and its parenthesis.
-fn put_call(
-    out: &mut Vec<u8>,
-    function: &[u8],
-    variable: &Boxed<Placed>,
-) -> Result<(), AllocError>
+fn put_call(out: &mut Vec<u8>, function: &[u8], variable: &Boxed<Placed>) -> Result<(), AllocError>
     ensures { OnOk result (out.new.items ≡ out.old.items ++ (function.now ++ (variable.now.name ++ codes ")"))) }
 {
     put(out, function)?;

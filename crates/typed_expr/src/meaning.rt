@@ -65,11 +65,7 @@ fn text_value(content: &Content, texts: &Texts) -> Value
 }
 
 // What the key or the label of a variable means.
-fn meant_use(
-    what: What,
-    variable: &Boxed<Placed>,
-    scene: Scene<'_>,
-) -> Result<Expr, NoMemory>
+fn meant_use(what: What, variable: &Boxed<Placed>, scene: Scene<'_>) -> Result<Expr, NoMemory>
     ensures { IfOk result (λ found. found ≡ spec.captured scene.entry.captures.now (uses.use_of what (variable_of scene.entry.variables.now variable.now.name))) }
 {
     let used = use_of(what, variable, scene.variables)?;
