@@ -143,6 +143,21 @@ fn spent() -> Item {
     }
 }
 
+// Adds the column of the first of these items.
+fn add_first(
+    items: &[Item],
+    scene: Scene<'_>,
+    select: &mut Items<(Expr, Name)>,
+) -> Result<(), NoMemory>
+    ensures { let means = meaning.meant scene.entry.schema.now scene.entry.variables.now scene.entry.captures.now scene.entry.texts.now in
+        OnOk result (select.new ++ spec.select_of means (drop 1 items.now) ≡ select.old ++ spec.select_of means items.now) }
+{
+    match items {
+        [item, ..] => add_column(item, scene, select),
+        [] => Ok(()),
+    }
+}
+
 // Adds the column of the item in this place, and lets the item's memory go.
 fn add_column_at(
     items: &mut Items<Item>,
@@ -156,9 +171,7 @@ fn add_column_at(
     ensures rest { drop (place + 1) items.new ≡ drop (place + 1) items.old }
     ensures as_many { length items.new ≡ length items.old }
 {
-    if let Some(item) = items.get(place) {
-        add_column(item, scene, select)?;
-    }
+    add_first(&items.as_slice()[place..], scene, select)?;
     items.set(place, spent());
     Ok(())
 }

@@ -4,7 +4,7 @@ use Rattle.typed_expr.specs.Typed as spec
 use Rattle.typed_expr.proofs.build.add_columns.Given as goal
 
 -- the items that are left stand as they did, and their columns are what is to come
-invariant-loop-place : goal.invariant-loop-place
+abbrev pub invariant-loop-place : goal.invariant-loop-place
 invariant-loop-place l =
     let means = meant l.scene.schema.now l.scene.variables.now l.scene.captures.now l.scene.texts.now in
     record {
