@@ -20,11 +20,11 @@ loop-piece-preserved c =
     let schema = c.args.schema.now in
     let asked = c.args.asked.now in
     let is_reply : (graph : PropertyGraph) → IsMeant c.args.texts.now schema graph asked
-        → IsAnswer (answering graph asked) schema c.loop-piece.number c.in-Some.piece.now.0 (piece_of c.args.file.now c.in-Some.piece.now) c.loop-piece.texts c.reply_to_text.new.texts c.in_ok-reply.reply.text.items c.in_ok-reply.reply.refused
+    → IsAnswer (answering graph asked) schema c.loop-piece.number c.in-Some.piece.now.0 (piece_of c.args.file.now c.in-Some.piece.now) c.loop-piece.texts c.reply_to_text.new.texts c.in_ok-reply.reply.text.items c.in_ok-reply.reply.refused
     = λ graph meant. rw (← c.piece_of-text.ensures.text, ← c.loop-piece.invariant.same) (c.in_ok-reply.ensures.reply graph (c.loop-piece.invariant.meant graph meant)) in
     let goes_on : (graph : PropertyGraph) → IsMeant c.args.texts.now schema graph asked → (new later : List (List ℕ)) (refused : Bool)
-        → AreAnswers (answering graph asked) schema c.args.file.now (c.loop-piece.number + 1) c.in-Some.others.now c.reply_to_text.new.texts new later refused
-        → AreAnswers (answering graph asked) schema c.args.file.now 1 c.args.pieces.now c.args.texts.now new ((bytes c.loop-piece.found.items ++ c.in_ok-reply.reply.text.items ∷ []) ++ later) ((c.loop-piece.one_refused || c.in_ok-reply.reply.refused) || refused)
+    → AreAnswers (answering graph asked) schema c.args.file.now (c.loop-piece.number + 1) c.in-Some.others.now c.reply_to_text.new.texts new later refused
+    → AreAnswers (answering graph asked) schema c.args.file.now 1 c.args.pieces.now c.args.texts.now new ((bytes c.loop-piece.found.items ++ c.in_ok-reply.reply.text.items ∷ []) ++ later) ((c.loop-piece.one_refused || c.in_ok-reply.reply.refused) || refused)
     = λ graph meant. one_more (answering graph asked) schema c.args.file.now c.loop-piece.number c.in-Some.piece.now c.in-Some.others.now c.loop-piece.rest.now c.args.pieces.now
     c.args.texts.now c.loop-piece.texts c.reply_to_text.new.texts (bytes c.loop-piece.found.items) c.in_ok-reply.reply.text.items c.loop-piece.one_refused c.in_ok-reply.reply.refused
     is (is_reply graph meant) (c.loop-piece.invariant.goes_on graph meant) in
