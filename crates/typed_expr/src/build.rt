@@ -48,14 +48,21 @@ fn labels_of(
     Ok(())
 }
 
+// The name of a variable, if it has one, as a name of its own.
+fn name_in(alloc: Global, declared: &Declared) -> Result<Option<Name>, NoMemory>
+    ensures { IfOk result (λ name. name ≡ declared.now.name) }
+{
+    match &declared.name {
+        Some(name) => Ok(Some(copied(alloc, name.get())?)),
+        None => Ok(None),
+    }
+}
+
 // A variable without its label lists.
 fn unlabelled(alloc: Global, declared: &Declared) -> Result<Variable, NoMemory>
     ensures { IfOk result (λ variable. variable ≡ record { name = declared.now.name; edge = declared.now.edge; labels = [] }) }
 {
-    let name = match &declared.name {
-        Some(name) => Some(copied(alloc, name.get())?),
-        None => None,
-    };
+    let name = name_in(alloc, declared)?;
     Ok(Variable {
         name,
         edge: declared.edge,

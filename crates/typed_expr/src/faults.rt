@@ -1,5 +1,5 @@
 //! All faults of a query.
-ghost use Rattle.std.specs.Prelude.{◌≡◌, ◌++◌, [], List, IfOk, OnOk, flat_map, map};
+ghost use Rattle.std.specs.Prelude.{◌≡◌, ◌++◌, [], List, IfOk, OnOk, Some, flat_map, map};
 ghost use Rattle.std.specs.Bool.{OnTrue};
 ghost use Rattle.pgql_tree.specs.declared.ast.Item.{Item};
 ghost use Rattle.typed_expr.specs.Kinds as kinds;
@@ -54,6 +54,19 @@ fn add_item_faults(
     Ok(())
 }
 
+fn add_if_double(
+    earlier: &Declarations,
+    placed: &Placed,
+    faults: &mut Items<TypeFault>,
+) -> Result<(), NoMemory>
+    ensures { (items : List Item) → earlier.now ≡ map spec.as_declared items → OnOk result (faults.new ≡ faults.old ++ spec.double_name items (Some placed.now)) }
+{
+    if earlier.variable_of(&placed.name).is_some() {
+        faults.push(TypeFault::DoubleName(placed.at))?;
+    }
+    Ok(())
+}
+
 fn add_double_name(
     earlier: &Declarations,
     name: &Option<Boxed<Placed>>,
@@ -61,13 +74,10 @@ fn add_double_name(
 ) -> Result<(), NoMemory>
     ensures { (items : List Item) → earlier.now ≡ map spec.as_declared items → OnOk result (faults.new ≡ faults.old ++ spec.double_name items name.now) }
 {
-    if let Some(placed) = name {
-        let placed = placed.get();
-        if earlier.variable_of(&placed.name).is_some() {
-            faults.push(TypeFault::DoubleName(placed.at))?;
-        }
+    match name {
+        Some(placed) => add_if_double(earlier, placed.get(), faults),
+        None => Ok(()),
     }
-    Ok(())
 }
 
 // Adds the faults of AS names, and the names.
