@@ -161,6 +161,9 @@ from_begun : (n : ℕ) (s : State) (xs : List ℕ) → Begins s → records_from
 unfolding records_from
 from_begun n s xs begins = rw (add-one n, begins xs) refl
 
+inside : {A : Type 0} (x y : A) → Some x ≡ Some y → x ≡ y
+inside x y e = cc e
+
 -- a record that was read, and those behind it
 one_read : (xs ys : List ℕ) (f : List (List ℕ)) → record_from st.StartRecord [] [] xs ≡ Some (f, ys) → records default_config xs ≡ f ∷ records default_config ys
 one_read xs ys f e = by (next_record default_config st.StartRecord [] [] xs) refl e
@@ -168,9 +171,9 @@ one_read xs ys f e = by (next_record default_config st.StartRecord [] [] xs) ref
     by : (o : Option Read) → next_record default_config st.StartRecord [] [] xs ≡ o → option_map {U = List (List ℕ) × List ℕ} (λ (r : Read). (r.0, r.2)) o ≡ Some (f, ys) → records default_config xs ≡ f ∷ records default_config ys
     by None p q = cc q
     by (Some r) p q =
-        let both : (r.0, r.2) ≡ (f, ys) = cc q in
-        let fields : r.0 ≡ f = ap (λ t. t.0) both in
-        let rest : r.2 ≡ ys = ap (λ t. t.1) both in
+        let both = inside {A = List (List ℕ) × List ℕ} (r.0, r.2) (f, ys) q in
+        let fields : r.0 ≡ f = ap (λ (t : List (List ℕ) × List ℕ). t.0) both in
+        let rest : r.2 ≡ ys = ap (λ (t : List (List ℕ) × List ℕ). t.1) both in
         rw (← fields, ← rest) (records-some default_config st.StartRecord xs r p ∙ ap (λ t. r.0 ∷ t) (from_begun (length r.2) r.1 r.2 (state-behind st.StartRecord [] [] xs r p)))
 
 -- texts with the same first record have the same records
