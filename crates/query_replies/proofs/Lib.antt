@@ -1,4 +1,3 @@
 pub mod Growing
-pub mod One
 pub mod Steps
 pub mod VerdictFacts

@@ -1,5 +1,4 @@
 pub mod Asked
 pub mod Faults
-pub mod Laws
 pub mod Replies
 pub mod Verdicts
