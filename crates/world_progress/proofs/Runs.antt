@@ -13,6 +13,7 @@ use Rattle.world_core.proofs.Leaves.{start-owes}
 use Rattle.match_context.specs.Tree.{Tree}
 use Rattle.match_context.specs.declared.context.Context.{Context}
 use Rattle.dfs_worker.specs.declared.event.Event.{Event}
+use Rattle.world_core.specs.Advances.{AreMade, advances}
 use Rattle.world_core.specs.Owed.{owed}
 use Rattle.world_core.specs.Step.{Step, Run, guard_of, worker_of, own_part, shared_part}
 use Rattle.world_core.specs.Stepped.{IsStepped, stepped_of}
@@ -55,6 +56,30 @@ goes-more t old mid new before after next worker i e goes step g same more fits 
       run = (goes.run.0 ++ e ∷ [], run-more t goes.run.0 e old mid new goes.run.1 step);
       fits = fits;
       owes = λ row. goes.owes row ∙ owes row;
+      steps = omega arith;
+    }
+
+-- ---- events that were made in one go
+pub run-append : (t : Tree) (first later : List Event) (old mid new : World) → Run t old first mid → Run t mid later new → Run t old (first ++ later) new
+run-append t [] later old mid new a b = subst (λ w. Run t w later new) a b
+run-append t (e ∷ es) later old mid new a b = (a.0, (a.1.0, run-append t es later a.0 mid new a.1.1 b))
+
+run-length : (t : Tree) (events : List Event) (old new : World) → Run t old events new → length new.workers ≡ length old.workers
+run-length t [] old new run = ap (λ (w : World). length w.workers) run
+run-length t (e ∷ es) old new run = run-length t es run.0 new run.1.1 ∙ step-length t old run.0 e run.1.0
+
+pub goes-far : (t : Tree) (old mid new : World) (before after next worker passed : ℕ) → GoesOn t old mid before after worker → AreMade t mid worker passed new → next ≡ after + passed + 1 →
+    GoesOn t old new before next worker
+goes-far t old mid new before after next worker passed goes made more =
+    let size = run-length t (advances passed worker) mid new made.run in
+    let steps = goes.steps in
+    let less = made.work in
+    let here = goes.worker_in in
+    record {
+      worker_in = omega arith;
+      run = (goes.run.0 ++ advances passed worker, run-append t goes.run.0 (advances passed worker) old mid new goes.run.1 made.run);
+      fits = subst (λ s. Fits t s) (sym made.shared) goes.fits;
+      owes = λ row. goes.owes row ∙ made.owes row;
       steps = omega arith;
     }
 

@@ -44,7 +44,8 @@ pub fn some_event<X: Expand>(world: &World, x: &X) -> Option<Event>
 }
 
 /// Makes events until all stages are closed, and counts them. A worker goes on as long as it can, at each event as the
-/// policy chooses; then it is the next one's turn.
+/// policy chooses; then it is the next one's turn. Where its top has answers to give, nothing is chosen, and those of
+/// which nothing comes are made in one go.
 ///
 /// The steps are at most the work that was left. After `NoMemory` the world is one that a run reaches, too.
 pub fn run_to_end<X: Expand, P: Policy, L: Ledger>(
@@ -63,6 +64,12 @@ pub fn run_to_end<X: Expand, P: Policy, L: Ledger>(
 {
     let mut w = 0;
     'events: loop {
+        if world.may_advance(w) {
+            let passed = world.advance(x, w)?;
+            steps.add(passed);
+            steps.tick();
+            continue 'events;
+        }
         let Some(event) = next_event(world, policy, w) else {
             return Ok(());
         };
@@ -104,5 +111,5 @@ fn counted_rows<X: Expand, P: Policy, L: Ledger>(
     let mut world = World::new(alloc, x, shape)?;
     let mut steps = Steps::<L>::new(blank);
     run_to_end(&mut world, x, policy, &mut steps)?;
-    world.take_rows(alloc)
+    world.into_rows()
 }

@@ -1,0 +1,77 @@
+-- Answers of a worker's top that are made in one go are steps, one after the other.
+use Rattle.std.proofs.Common.{◌≡◌, ℕ, ◌+◌, ◌<◌, ◌≤◌, List, [], ◌∷◌, length, Some, None, refl, sym, ap, subst, ◌∙◌, set, arith, zero, suc}
+use Rattle.std.specs.Prelude.{slice_get, slice_set}
+use Rattle.std.proofs.lemmas.List.{set-set}
+use Rattle.match_context.specs.declared.context.Context.{Context}
+use Rattle.match_context.specs.Tree.{Tree, IsTree}
+use Rattle.fabric.specs.Shared.{Shared}
+use Rattle.dfs_worker.specs.declared.event.Event.{Event}
+use Rattle.dfs_worker.specs.declared.event.Event.TheVariants.{Advance}
+use Rattle.dfs_worker.specs.Guards.{own_guard}
+use Rattle.dfs_worker.specs.Own.{advanced}
+use Rattle.dfs_worker.specs.Passing as passing
+use Rattle.dfs_worker.specs.State.{State}
+use Rattle.world_core.specs.Advances.{AreMade, advances}
+use Rattle.world_core.specs.Owed.{owed}
+use Rattle.world_core.specs.Sound.{Sound}
+use Rattle.world_core.specs.Step.{Step, Run, guard_at, guard_of, then_guard, shared_guard}
+use Rattle.world_core.specs.Work.{work_left}
+use Rattle.world_core.specs.World.{World, world_of, Fits}
+use Rattle.world_core.proofs.Steps.{happens-is, step-sound}
+use Rattle.world_core.proofs.Weighs.{step-owes}
+use Rattle.world_core.proofs.Works.{step-works}
+
+-- the world in which one worker has changed
+abbrev pub with_worker : World → ℕ → State → World
+with_worker w i v = world_of (slice_set w.workers i v) w.shared
+
+pub may-advance : (w : World) (i : ℕ) (v : State) → slice_get w.workers i ≡ Some v → own_guard (Advance 0) v ≡ None → guard_of w (Advance i) ≡ None
+may-advance w i v at own = ap (λ o. guard_at (Advance i) o w.shared) at ∙ ap (λ o. then_guard o (shared_guard (Advance i) v w.shared)) own
+
+advance-steps : (tree : Tree) (w : World) (i : ℕ) (v : State) → slice_get w.workers i ≡ Some v → own_guard (Advance 0) v ≡ None → Step tree w (Advance i) (with_worker w i (advanced tree v))
+advance-steps tree w i v at own = record { enabled = may-advance w i v at own; change = sym (happens-is tree w (Advance i) v at) }
+
+pub record Goes (tree : Tree) (w : World) (i passed : ℕ) (w' : World) : Type 0 where
+  pub made : AreMade tree w i passed w'
+  pub sound : Sound w'
+
+one-advance : (tree : Tree) (w : World) (i : ℕ) (v : State) → IsTree tree → Fits tree w.shared → Sound w → slice_get w.workers i ≡ Some v → own_guard (Advance 0) v ≡ None →
+    Goes tree w i 0 (with_worker w i (advanced tree v))
+one-advance tree w i v law fits sound at own =
+    let new = with_worker w i (advanced tree v) in
+    let step = advance-steps tree w i v at own in
+    let less = step-works tree w new (Advance i) law fits sound step in
+    record {
+      made = record { run = (new, (step, refl)); owes = λ row. step-owes row tree w new (Advance i) law fits sound step; work = omega arith; shared = refl };
+      sound = step-sound tree w new (Advance i) law fits sound step;
+    }
+
+then-goes : (tree : Tree) (w mid new : World) (i passed : ℕ) → Step tree w (Advance i) mid → Goes tree w i 0 mid → Goes tree mid i passed new → Goes tree w i (suc passed) new
+then-goes tree w mid new i passed step first later =
+    let a = first.made.work in
+    let b = later.made.work in
+    record {
+      made = record {
+        run = (mid, (step, later.made.run));
+        owes = λ row. first.made.owes row ∙ later.made.owes row;
+        work = omega arith;
+        shared = later.made.shared ∙ first.made.shared;
+      };
+      sound = later.sound;
+    }
+
+get-set : (vs : List State) (i : ℕ) (v u : State) → slice_get vs i ≡ Some v → slice_get (slice_set vs i u) i ≡ Some u
+get-set [] i v u e = cc
+get-set (x ∷ vs) zero v u e = refl
+get-set (x ∷ vs) (suc i) v u e = get-set vs i v u e
+
+pub advances-go : (tree : Tree) (passed : ℕ) (w : World) (i : ℕ) (v v' : State) → IsTree tree → Fits tree w.shared → Sound w → slice_get w.workers i ≡ Some v → passing.Advances tree passed v v' →
+    Goes tree w i passed (with_worker w i v')
+advances-go tree zero w i v v' law fits sound at h =
+    subst (λ u. Goes tree w i 0 (with_worker w i u)) (sym h.1) (one-advance tree w i v law fits sound at h.0)
+advances-go tree (suc passed) w i v v' law fits sound at h =
+    let mid = with_worker w i (advanced tree v) in
+    let first = one-advance tree w i v law fits sound at h.0 in
+    let later = advances-go tree passed mid i (advanced tree v) v' law fits first.sound (get-set w.workers i v (advanced tree v) at) h.1 in
+    then-goes tree w mid (with_worker w i v') i passed (advance-steps tree w i v at h.0) first
+    (subst (λ vs. Goes tree mid i passed (world_of vs w.shared)) (set-set w.workers i (advanced tree v) v') later)
