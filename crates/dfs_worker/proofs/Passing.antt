@@ -1,6 +1,7 @@
 -- Answers that are made in one go are advances, one after the other.
-use Rattle.std.proofs.Common.{◌≡◌, ℕ, ◌+◌, ◌<◌, List, [], ◌∷◌, length, get_or, take, reverse, Option, Some, None, refl, sym, ap, subst, ◌∙◌, arith, zero, suc}
-use Rattle.std.specs.Prelude.{slice_set}
+use Rattle.std.proofs.Common.{◌≡◌, ℕ, ◌+◌, ◌<◌, List, [], ◌∷◌, length, get_or, take, reverse, Option, Some, None, Result, Ok, Err, refl, sym, ap, subst, ◌∙◌, arith, zero, suc}
+use Rattle.std.specs.Prelude.{slice_set, IfOk}
+use Rattle.adfs_base.specs.declared.name.NoMemory as base
 use Rattle.match_context.specs.declared.context.Context.{Context}
 use Rattle.match_context.specs.declared.frame.Frame.{Frame}
 use Rattle.match_context.specs.declared.expand.Found.{Found}
@@ -12,7 +13,7 @@ use Rattle.match_context.specs.Tree.{Tree, IsTree, Item, Below, Leaf, Pass, AreI
 use Rattle.dfs_worker.specs.declared.event.Event.TheVariants as event
 use Rattle.dfs_worker.specs.Guards.{own_guard}
 use Rattle.dfs_worker.specs.Own.{ended, stepped, onto, answer_at, frames_after, rows_after, rows_with, advanced}
-use Rattle.dfs_worker.specs.Passing.{Passed, TopPassed, Advances}
+use Rattle.dfs_worker.specs.Passing.{Passed, TopBelow, TopPassed, Advances}
 use Rattle.dfs_worker.specs.State.{State}
 use Rattle.dfs_worker.proofs.Tops.{reverse-top, reverse-set_top}
 
@@ -31,10 +32,10 @@ passes-rest tree machine (suc passed) old new what h = passes-rest tree machine 
 
 stays : (tree : Tree) (machine : ℕ) (frame new : Frame) (next : Next) (what : Found) → what ≡ found_of next → new ≡ with_child next frame → (what ≡ found.End → ⊥) →
     stepped tree machine frame next ≡ Some new
-stays tree machine frame new (Child context to) what e is no = ap Some (sym is)
-stays tree machine frame new (Row context) what e is no = ap Some (sym is)
-stays tree machine frame new Skip what e is no = ap Some (sym is)
-stays tree machine frame new End what e is no = absurd (no e)
+stays tree machine frame new (Child context to) what e is goes = ap Some (sym is)
+stays tree machine frame new (Row context) what e is goes = ap Some (sym is)
+stays tree machine frame new Skip what e is goes = ap Some (sym is)
+stays tree machine frame new End what e is goes = absurd (goes e)
 
 ends : (tree : Tree) (machine : ℕ) (frame new : Frame) (next : Next) (what : Found) (kept : Option Frame) → what ≡ found_of next → new ≡ with_child next frame → what ≡ found.End →
     ended tree machine new new.rest ≡ kept → stepped tree machine frame next ≡ kept
@@ -44,9 +45,9 @@ ends tree machine frame new Skip what kept e is end on = cc
 ends tree machine frame new End what kept e is end on = subst (λ (f : Frame). ended tree machine f f.rest ≡ kept) is on
 
 pub passes-on : (tree : Tree) (machine passed : ℕ) (old new : Frame) (what : Found) → Passes tree machine old passed what new → (what ≡ found.End → ⊥) → Passed tree machine old passed (Some new)
-passes-on tree machine zero old new what h no =
-    stays tree machine (after tree machine old) new (answer (tree.ahead machine old.stage old.context old.place)) what h.0 h.1 no
-passes-on tree machine (suc passed) old new what h no = (h.0, passes-on tree machine passed (after tree machine old) new what h.1 no)
+passes-on tree machine zero old new what h goes_on =
+    stays tree machine (after tree machine old) new (answer (tree.ahead machine old.stage old.context old.place)) what h.0 h.1 goes_on
+passes-on tree machine (suc passed) old new what h goes_on = (h.0, passes-on tree machine passed (after tree machine old) new what h.1 goes_on)
 
 pub passes-end : (tree : Tree) (machine passed : ℕ) (old new : Frame) (what : Found) (kept : Option Frame) → Passes tree machine old passed what new → what ≡ found.End →
     ended tree machine new new.rest ≡ kept → Passed tree machine old passed kept
@@ -143,3 +144,18 @@ passed-advances tree zero old new frames rows g h is = (g, last-advance tree old
 passed-advances tree (suc passed) old new frames rows g h is =
     let on = goes tree passed old frames rows g h in
     (g, passed-advances tree passed (advanced tree old) new frames rows on.guard on.later is)
+
+-- ---- what the code reads
+pub top-below : (stages n : ℕ) (xs olds : List Frame) (top d : Frame) → reverse xs ≡ olds → n + 1 ≡ length xs → top ≡ get_or xs n d → TopBelow stages olds → top.stage + 1 < stages
+top-below stages n xs olds top d olds_are last top_is below =
+    let fronts : olds ≡ get_or xs n d ∷ reverse (take n xs) = sym olds_are ∙ reverse-top xs n d last in
+    let low = subst (TopBelow stages) fronts below in
+    subst (λ (f : Frame). f.stage + 1 < stages) (sym top_is) low
+
+-- the worker whose stack and rows are these
+pub if-passed : (tree : Tree) (old inside new : State) (r : Result ℕ base.NoMemory) → inside ≡ old → own_guard (event.Advance 0) old ≡ None →
+    IfOk r (λ passed. TopPassed tree inside.machine inside.stack inside.rows passed new.stack new.rows) → new ≡ with_top inside new.stack new.rows → IfOk r (λ passed. Advances tree passed old new)
+if-passed tree old inside new (Ok passed) same g h is =
+    passed-advances tree passed old new new.stack new.rows g (subst (λ (v : State). TopPassed tree v.machine v.stack v.rows passed new.stack new.rows) same h)
+    (subst (λ v. new ≡ with_top v new.stack new.rows) same is)
+if-passed tree old inside new (Err e) same g h is = tt

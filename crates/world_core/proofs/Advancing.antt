@@ -1,5 +1,5 @@
 -- Answers of a worker's top that are made in one go are steps, one after the other.
-use Rattle.std.proofs.Common.{◌≡◌, ℕ, ◌+◌, ◌<◌, ◌≤◌, List, [], ◌∷◌, length, Some, None, refl, sym, ap, subst, ◌∙◌, set, arith, zero, suc}
+use Rattle.std.proofs.Common.{◌≡◌, ℕ, ◌+◌, ◌<◌, ◌≤◌, List, [], ◌∷◌, length, get_or, Some, None, refl, sym, ap, subst, ◌∙◌, set, arith, zero, suc}
 use Rattle.std.specs.Prelude.{slice_get, slice_set}
 use Rattle.std.proofs.lemmas.List.{set-set}
 use Rattle.match_context.specs.declared.context.Context.{Context}
@@ -10,6 +10,7 @@ use Rattle.dfs_worker.specs.declared.event.Event.TheVariants.{Advance}
 use Rattle.dfs_worker.specs.Guards.{own_guard}
 use Rattle.dfs_worker.specs.Own.{advanced}
 use Rattle.dfs_worker.specs.Passing as passing
+use Rattle.dfs_worker.specs.Sound.{IsWorker, WithinRoots}
 use Rattle.dfs_worker.specs.State.{State}
 use Rattle.world_core.specs.Advances.{AreMade, advances}
 use Rattle.world_core.specs.Owed.{owed}
@@ -17,7 +18,10 @@ use Rattle.world_core.specs.Sound.{Sound}
 use Rattle.world_core.specs.Step.{Step, Run, guard_at, guard_of, then_guard, shared_guard}
 use Rattle.world_core.specs.Work.{work_left}
 use Rattle.world_core.specs.World.{World, world_of, Fits}
-use Rattle.world_core.proofs.Steps.{happens-is, step-sound}
+use Rattle.world_core.proofs.Bodies.{advance-roots}
+use Rattle.world_core.proofs.Made.{enabled-read}
+use Rattle.world_core.proofs.Parts.{sound-part}
+use Rattle.world_core.proofs.Steps.{happens-is, step-sound, tree-fits}
 use Rattle.world_core.proofs.Weighs.{step-owes}
 use Rattle.world_core.proofs.Works.{step-works}
 
@@ -75,3 +79,25 @@ advances-go tree (suc passed) w i v v' law fits sound at h =
     let later = advances-go tree passed mid i (advanced tree v) v' law fits first.sound (get-set w.workers i v (advanced tree v) at) h.1 in
     then-goes tree w mid (with_worker w i v') i passed (advance-steps tree w i v at h.0) first
     (subst (λ vs. Goes tree mid i passed (world_of vs w.shared)) (set-set w.workers i (advanced tree v) v') later)
+
+-- what the code of an advance reads of a world
+pub record AdvanceReads (tree : Tree) (w : World) (i : ℕ) (v : State) : Type 0 where
+  pub at : slice_get w.workers i ≡ Some v
+  pub own : own_guard (Advance 0) v ≡ None
+  pub worker : IsWorker v
+  pub stages : v.shape.stages ≡ tree.stages
+  pub machines : v.shape.machines ≡ tree.machines
+  pub roots : WithinRoots (tree.roots v.machine) v.stack
+
+pub advance-reads : (tree : Tree) (w : World) (i : ℕ) (v : State) → IsTree tree → Fits tree w.shared → Sound w → guard_of w (Advance i) ≡ None → v ≡ get_or w.workers i v → AdvanceReads tree w i v
+advance-reads tree w i v law fits sound g read =
+    let on = enabled-read w (Advance i) i v g refl read in
+    let fit = tree-fits tree w i v law fits sound on.at in
+    record {
+      at = on.at;
+      own = on.own;
+      worker = sound.own i v on.at;
+      stages = sym fit.same_stages;
+      machines = sym fit.same_machines;
+      roots = advance-roots tree w.shared v (sound-part w i v sound on.at) fits;
+    }
