@@ -66,9 +66,9 @@ no-row tree stage (Pass ∷ items) rows h low = refl
 pub passed-top : (tree : Tree) (machine passed : ℕ) (frame : Frame) (frames : List Frame) (rows : List Context) (kept : Option Frame) → IsTree tree → frame.stage + 1 < tree.stages →
     Passed tree machine frame passed kept → TopPassed tree machine (frame ∷ frames) rows passed (onto kept frames) rows
 passed-top tree machine zero frame frames rows kept law low h = (
-    ap (λ o. onto o frames) (sym h),
-    no-row tree frame.stage (tree.ahead machine frame.stage frame.context frame.place) rows (law.items machine frame.stage frame.context frame.place) low,
-  )
+  ap (λ o. onto o frames) (sym h),
+  no-row tree frame.stage (tree.ahead machine frame.stage frame.context frame.place) rows (law.items machine frame.stage frame.context frame.place) low,
+)
 passed-top tree machine (suc passed) frame frames rows kept law low h = (h.0, passed-top tree machine passed (after tree machine frame) frames rows kept law low h.1)
 
 -- the frames of a stack, the top last, when answers of the top are made and it stays

@@ -6,7 +6,7 @@ use Rattle.match_context.specs.declared.expand.Next.TheVariants.{Skip}
 use Rattle.match_context.specs.Tree.{Tree, after}
 use Rattle.dfs_worker.specs.declared.event.Event.TheVariants as event
 use Rattle.dfs_worker.specs.Guards.{own_guard}
-use Rattle.dfs_worker.specs.Own.{stepped, onto, answer_at, frames_after, rows_after, advanced}
+use Rattle.dfs_worker.specs.Own.{stepped, answer_at, frames_after, rows_after, advanced}
 use Rattle.dfs_worker.specs.State.{State}
 
 -- Nothing came of so many answers of a frame, and one more leaves this of it.

@@ -24,7 +24,12 @@ fn play(alloc: Global, line: &str) -> Result<String, NoMemory> {
     };
     let tally = runs::run(alloc, &scene)?;
     let leaves = leaves::count(&scene.fan);
-    let (runs, at_once, by_events, ended) = (tally.runs, tally.at_once, tally.by_events, tally.ended);
+    let (runs, at_once, by_events, ended) = (
+        tally.runs,
+        tally.at_once,
+        tally.by_events,
+        tally.ended,
+    );
     Ok(format!(in alloc;
         "{name}: {leaves} leaves; {runs} runs: {at_once} at once, {by_events} by events, {ended} to the end"
     )?)

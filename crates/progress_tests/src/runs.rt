@@ -117,7 +117,13 @@ pub fn run(alloc: Global, scene: &Scene) -> Result<Tally, NoMemory>
     run_both(alloc, scene, &mut Deepest, &mut Deepest, &mut tally)?;
     for seed in 0..scene.seeds {
         let number = u64::from(seed);
-        run_both(alloc, scene, &mut Seeded(number), &mut Seeded(number), &mut tally)?;
+        run_both(
+            alloc,
+            scene,
+            &mut Seeded(number),
+            &mut Seeded(number),
+            &mut tally,
+        )?;
     }
     Ok(tally)
 }

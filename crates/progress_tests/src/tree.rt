@@ -38,7 +38,11 @@ impl Expand for Fan {
     }
 
     fn roots(&self, machine: u32) -> u64 {
-        if machine == 0 { self.first } else { self.others }
+        if machine == 0 {
+            self.first
+        } else {
+            self.others
+        }
     }
 
     fn root(&self, machine: u32, place: u64) -> Context {

@@ -1,7 +1,8 @@
 -- Answers of a worker's top that are made in one go are steps, one after the other.
-use Rattle.std.proofs.Common.{◌≡◌, ℕ, ◌+◌, ◌<◌, ◌≤◌, List, [], ◌∷◌, length, get_or, Some, None, refl, sym, ap, subst, ◌∙◌, set, arith, zero, suc}
-use Rattle.std.specs.Prelude.{slice_get, slice_set}
-use Rattle.std.proofs.lemmas.List.{set-set}
+use Rattle.std.proofs.Common.{◌≡◌, ℕ, ◌+◌, ◌<◌, ◌≤◌, List, [], ◌∷◌, length, get_or, Some, None, Result, Ok, Err, refl, sym, ap, subst, ◌∙◌, set, arith, zero, suc}
+use Rattle.std.specs.Prelude.{slice_get, slice_set, IfOk, OnErr}
+use Rattle.std.proofs.lemmas.List.{set-set, set-get_or}
+use Rattle.adfs_base.specs.declared.name.NoMemory as base
 use Rattle.match_context.specs.declared.context.Context.{Context}
 use Rattle.match_context.specs.Tree.{Tree, IsTree}
 use Rattle.fabric.specs.Shared.{Shared}
@@ -101,3 +102,30 @@ advance-reads tree w i v law fits sound g read =
       machines = sym fit.same_machines;
       roots = advance-roots tree w.shared v (sound-part w i v sound on.at) fits;
     }
+
+-- ---- the same of the world that the code has taken apart
+advance-inside : (tree : Tree) (now inside : World) (i : ℕ) (v : State) → inside ≡ now → IsTree tree → Fits tree now.shared → Sound inside → guard_of now (Advance i) ≡ None → v ≡ get_or inside.workers i v →
+    Fits tree inside.shared × AdvanceReads tree inside i v
+advance-inside tree now inside i v same law fits sound g read =
+    let here = subst (λ (w : World). Fits tree w.shared) (sym same) fits in
+    (here, advance-reads tree inside i v law here sound (subst (λ w. guard_of w (Advance i) ≡ None) (sym same) g) read)
+
+pub inside-reads : (tree : Tree) (now inside : World) (i : ℕ) (v : State) → inside ≡ now → IsTree tree → Fits tree now.shared → Sound inside → guard_of now (Advance i) ≡ None → v ≡ get_or inside.workers i v →
+    AdvanceReads tree inside i v
+inside-reads tree now inside i v same law fits sound g read = (advance-inside tree now inside i v same law fits sound g read).1
+
+pub inside-made : (tree : Tree) (now inside : World) (i : ℕ) (v v' : State) (r : Result ℕ base.NoMemory) → inside ≡ now → IsTree tree → Fits tree now.shared → Sound inside → guard_of now (Advance i) ≡ None → v ≡ get_or inside.workers i v →
+    IfOk r (λ passed. passing.Advances tree passed v v') → IfOk r (λ passed. AreMade tree now i passed (with_worker inside i v'))
+inside-made tree now inside i v v' (Ok passed) same law fits sound g read h =
+    let here = advance-inside tree now inside i v same law fits sound g read in
+    subst (λ w. AreMade tree w i passed (with_worker inside i v')) same (advances-go tree passed inside i v v' law here.0 sound here.1.at h).made
+inside-made tree now inside i v v' (Err e) same law fits sound g read h = tt
+
+pub inside-sound : (tree : Tree) (now inside : World) (i : ℕ) (v v' : State) (r : Result ℕ base.NoMemory) → inside ≡ now → IsTree tree → Fits tree now.shared → Sound inside → guard_of now (Advance i) ≡ None → v ≡ get_or inside.workers i v →
+    IfOk r (λ passed. passing.Advances tree passed v v') → OnErr r (v' ≡ v) → Sound (with_worker inside i v')
+inside-sound tree now inside i v v' (Ok passed) same law fits sound g read h e =
+    let here = advance-inside tree now inside i v same law fits sound g read in
+    (advances-go tree passed inside i v v' law here.0 sound here.1.at h).sound
+inside-sound tree now inside i v v' (Err x) same law fits sound g read h e =
+    let back : slice_set inside.workers i v' ≡ inside.workers = ap (λ y. slice_set inside.workers i y) (e ∙ read) ∙ set-get_or inside.workers i v in
+    subst (λ vs. Sound (world_of vs inside.shared)) (sym back) sound

@@ -2,7 +2,7 @@
 use Rattle.std.proofs.Common.{◌≡◌, ℕ, ◌+◌, ◌*◌, ◌<◌, ◌≤◌, Bool, false, List, [], ◌∷◌, ◌++◌, length, get_or, take, append_assoc, length-append, Option, Some, None, refl, sym, ap, subst, ◌∙◌, arith, zero, suc}
 use Rattle.std.specs.Prelude.{slice_get, slice_set}
 use Rattle.std.proofs.lemmas.List.{take-append-le}
-use Rattle.std.proofs.Math.Seq.{take-length}
+use Rattle.std.proofs.lemmas.Nat.{mul-le}
 use Rattle.std.proofs.lemmas.Option.{none-some}
 use Rattle.match_context.specs.Bags.{total}
 use Rattle.match_context.specs.declared.context.Context.{Context}
@@ -137,3 +137,26 @@ given-is vs i v d u low read none = ap (λ y. slice_set vs i y) (none ∙ ap row
 pub given-sound : (vs : List State) (i : ℕ) (v d u : State) (s : Shared) → Sound (world_of vs s) → i < length vs → v ≡ get_or vs i d → u ≡ rowless v → Sound (world_of (slice_set vs i u) s)
 given-sound vs i v d u s sound low read none =
     subst (λ ws. Sound (world_of ws s)) (sym (given-is vs i v d u low read none)) (rowless-sound vs i s sound)
+
+-- ---- the workers give their rows one after the other
+pub some-worker : (w : World) → Sound w → 0 < length w.workers
+some-worker w sound =
+    let machines = sound.tables.shape.some_machine in
+    let workers = sound.tables.shape.some_worker in
+    let size = sound.number_of_workers in
+    let product = mul-le 1 1 w.shared.shape.machines w.shared.shape.workers machines workers in
+    omega arith
+
+pub taken-next : (first now next : World) (i : ℕ) → i < length first.workers → now ≡ world_of (first_rowless i first.workers) first.shared →
+    next ≡ world_of (without_rows_at now.workers i) now.shared → next ≡ world_of (first_rowless (i + 1) first.workers) first.shared
+taken-next first now next i low is taken =
+    let more : suc i ≡ i + 1 = omega arith in
+    taken ∙ ap (λ (w : World). world_of (without_rows_at w.workers i) w.shared) is
+    ∙ ap (λ vs. world_of vs first.shared) (first-next i first.workers low ∙ ap (λ n. first_rowless n first.workers) more)
+
+pub taken-rows : (first now : World) (i : ℕ) (rows own : List Context) → i < length first.workers → now ≡ world_of (first_rowless i first.workers) first.shared →
+    rows ≡ first_rows i first.workers → own ≡ rows_at now.workers i → rows ++ own ≡ first_rows (i + 1) first.workers
+taken-rows first now i rows own low is so_far taken =
+    let more : suc i ≡ i + 1 = omega arith in
+    ap (λ xs. xs ++ own) so_far ∙ ap (λ xs. first_rows i first.workers ++ xs) (taken ∙ ap (λ (w : World). rows_at w.workers i) is)
+    ∙ sym (first-more i first.workers low) ∙ ap (λ n. first_rows n first.workers) more

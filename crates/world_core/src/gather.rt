@@ -23,8 +23,9 @@ fn add(rows: &mut Vec<Context>, own: Vec<Context>) -> Result<(), NoMemory>
 pub fn take_all(world: &mut World) -> Result<Vec<Context>, NoMemory>
     ensures { IfOk result (λ rows. rows.items ≡ all_rows world.old.workers) }
 {
+    let count = world.workers().len();
     let mut rows = world.take_rows(0);
-    for w in 1..world.workers().len() {
+    for w in 1..count {
         let own = world.take_rows(w as u32);
         add(&mut rows, own)?;
     }

@@ -174,7 +174,7 @@ impl World {
     /// The rows of all workers, in the order of the workers, in one list. It is the first worker's own, to which those of
     /// the others are added, so one worker's rows take no memory.
     pub fn into_rows(self) -> Result<Vec<Context>, NoMemory>
-        ensures { IfOk result (λ rows. rows.items ≡ all_rows self.entry.workers) }
+        ensures { IfOk result (λ rows. rows.items ≡ all_rows self.workers) }
     {
         let mut world = self;
         take_all(&mut world)

@@ -1,8 +1,6 @@
-use Rattle.std.proofs.Common.{◌≡◌, ◌+◌, ◌-◌, ◌<◌, List, [], ◌∷◌, take, reverse, Some, None, ap, subst, sym, ◌∙◌, arith}
+use Rattle.std.proofs.Common.{◌-◌, reverse, ap, subst, sym, ◌∙◌, arith}
 use Rattle.std.proofs.lemmas.List.{take-set}
-use Rattle.match_context.specs.declared.context.Context.{Context}
-use Rattle.match_context.specs.declared.frame.Frame.{Frame}
-use Rattle.dfs_worker.specs.Passing.{Passed, TopBelow, TopPassed}
+use Rattle.dfs_worker.specs.Passing.{TopPassed}
 use Rattle.dfs_worker.specs.Tower.{Tower}
 use Rattle.dfs_worker.proofs.Passing.{top-kept, top-off, top-below}
 use Rattle.dfs_worker.proofs.stack.Stack.pass.Goals as goal
