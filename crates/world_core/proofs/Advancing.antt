@@ -1,23 +1,18 @@
 -- Answers of a worker's top that are made in one go are steps, one after the other.
-use Rattle.std.proofs.Common.{◌≡◌, ℕ, ◌+◌, ◌<◌, ◌≤◌, List, [], ◌∷◌, length, get_or, Some, None, Result, Ok, Err, refl, sym, ap, subst, ◌∙◌, set, arith, zero, suc}
+use Rattle.std.proofs.Common.{◌≡◌, ℕ, List, [], ◌∷◌, get_or, Some, None, Result, Ok, Err, refl, sym, ap, subst, ◌∙◌, arith, zero, suc}
 use Rattle.std.specs.Prelude.{slice_get, slice_set, IfOk, OnErr}
 use Rattle.std.proofs.lemmas.List.{set-set, set-get_or}
 use Rattle.adfs_base.specs.declared.name.NoMemory as base
-use Rattle.match_context.specs.declared.context.Context.{Context}
 use Rattle.match_context.specs.Tree.{Tree, IsTree}
-use Rattle.fabric.specs.Shared.{Shared}
-use Rattle.dfs_worker.specs.declared.event.Event.{Event}
 use Rattle.dfs_worker.specs.declared.event.Event.TheVariants.{Advance}
 use Rattle.dfs_worker.specs.Guards.{own_guard}
 use Rattle.dfs_worker.specs.Own.{advanced}
 use Rattle.dfs_worker.specs.Passing as passing
 use Rattle.dfs_worker.specs.Sound.{IsWorker, WithinRoots}
 use Rattle.dfs_worker.specs.State.{State}
-use Rattle.world_core.specs.Advances.{AreMade, advances}
-use Rattle.world_core.specs.Owed.{owed}
+use Rattle.world_core.specs.Advances.{AreMade}
 use Rattle.world_core.specs.Sound.{Sound}
-use Rattle.world_core.specs.Step.{Step, Run, guard_at, guard_of, then_guard, shared_guard}
-use Rattle.world_core.specs.Work.{work_left}
+use Rattle.world_core.specs.Step.{Step, guard_at, guard_of, then_guard, shared_guard}
 use Rattle.world_core.specs.World.{World, world_of, Fits}
 use Rattle.world_core.proofs.Bodies.{advance-roots}
 use Rattle.world_core.proofs.Made.{enabled-read}

@@ -1,7 +1,6 @@
-use Rattle.std.proofs.Common.{◌≡◌, ℕ, ◌+◌, ◌<◌, ◌++◌, length, ap, sym, ◌∙◌, arith, suc}
-use Rattle.world_core.specs.Rows.{rows_at, without_rows_at}
-use Rattle.world_core.specs.World.{World, world_of}
-use Rattle.world_core.proofs.Rowless.{first_rows, first_rowless, first-more, first-next, first-all, first-length, some-worker, taken-next, taken-rows}
+use Rattle.std.proofs.Common.{◌≡◌, ◌<◌, length, ap, ◌∙◌, arith}
+use Rattle.world_core.specs.World.{World}
+use Rattle.world_core.proofs.Rowless.{first_rows, first-all, first-length, some-worker, taken-next, taken-rows}
 use Rattle.world_core.proofs.gather.take_all.Goals as goal
 
 pub take_rows-rows-requires : goal.take_rows-rows-requires

@@ -1,4 +1,4 @@
-use Rattle.std.proofs.Common.{◌≡◌, ◌≤◌, length}
+use Rattle.std.proofs.Common.{◌≡◌}
 use Rattle.world_core.specs.World.{world_of}
 use Rattle.world_core.proofs.Rowless.{first_rows, first_rowless}
 use Rattle.world_core.proofs.gather.take_all.Given as goal
