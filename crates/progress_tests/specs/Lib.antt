@@ -1,3 +1,0 @@
-pub mod Fans
-pub mod Laws
-pub mod Scenes
