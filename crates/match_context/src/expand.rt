@@ -1,5 +1,6 @@
 //! A staged tree: what the contexts are that come next.
-ghost use Rattle.std.specs.Prelude.{◌≡◌, ◌<◌};
+ghost use Rattle.std.specs.Prelude.{◌≡◌, ◌+◌, ◌<◌};
+ghost use Rattle.match_context.specs.Passes.{Passes};
 ghost use Rattle.match_context.specs.Tree.{Tree, IsTree, answer, after};
 
 use crate::{Context, Frame};
@@ -12,6 +13,19 @@ pub enum Next {
     /// A match of the whole pattern.
     Row(Context),
     /// Nothing came of this place. There may be more.
+    Skip,
+    /// The context has no further place.
+    End,
+}
+
+/// What came of the last place that `Expand::seek` took.
+#[derive(Clone, Copy, Debug, PartialEq, Eq)]
+pub enum Found {
+    /// A child, which waits in the frame.
+    Child,
+    /// A match of the whole pattern. The last stage alone has one, and there `Expand::next` tells it.
+    Row,
+    /// Nothing. There may be more.
     Skip,
     /// The context has no further place.
     End,
@@ -50,6 +64,25 @@ pub trait Expand {
         requires stage_in { frame.old.stage < (tree self.now).stages }
         ensures answer { result ≡ answer ((tree self.now).ahead machine frame.old.stage frame.old.context frame.old.place) }
         ensures changed { frame.new ≡ after (tree self.now) machine frame.old };
+
+    /// Passes over places of which nothing comes, and takes the one after them. It tells how many it passed over, and
+    /// what came of that one: a child then waits in the frame. It may stop at a place of which nothing comes, too.
+    fn seek(&self, machine: u32, frame: &mut Frame) -> (u64, Found)
+        requires machine_in { machine < (tree self.now).machines }
+        requires stage_in { frame.old.stage + 1 < (tree self.now).stages }
+        ensures { Passes (tree self.now) machine frame.old result.0 result.1 frame.new }
+    {
+        let found = match self.next(machine, frame) {
+            Next::Child(context, to) => {
+                frame.wait = Some((context, to));
+                Found::Child
+            }
+            Next::Row(_) => Found::Row,
+            Next::Skip => Found::Skip,
+            Next::End => Found::End,
+        };
+        (0, found)
+    }
 
     // Its children are of the following stage and of machines that exist, rows come at the last stage alone, and
     // `next` leaves the later answers ahead.

@@ -8,7 +8,8 @@
 //! never holds more than its size, and takes no memory once it is made. `Message` and `Frame` are plain.
 //!
 //! `Expand` is a staged tree, as a query's plan is one, without a word of the query: for each machine, stage,
-//! context and place it has a list of answers still ahead (`Tree`, specs/Tree.antt), and `next` takes the first.
+//! context and place it has a list of answers still ahead (`Tree`, specs/Tree.antt), and `next` takes the first; `seek` passes over
+//! those that say nothing (`Passes`, specs/Passes.antt).
 //! A child is of the following stage, and a row comes at the last stage alone (`IsTree`). What a context weighs
 //! (`weight`, specs/Weight.antt) is what all answers below it weigh; with a scale that weighs rows alone that is
 //! the bag of its leaves. The laws of bags and weights stand in `laws`.
@@ -23,7 +24,7 @@ mod message;
 
 pub use buffer::Buffer;
 pub use context::Context;
-pub use expand::{Expand, Next};
+pub use expand::{Expand, Found, Next};
 pub use frame::{Frame, Rest};
 pub use message::Message;
 

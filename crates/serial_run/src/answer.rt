@@ -71,7 +71,7 @@ pub fn reply_of_rows(
     ensures { IfOk result (λ text. text.items ≡ reply_text texts.now number query.now rows.now) }
 {
     let mut text = Vec::new(alloc);
-    put_reply(number, query, rows, texts, &mut text)?;
+    put_reply(alloc, number, query, rows, texts, &mut text)?;
     Ok(text)
 }
 
