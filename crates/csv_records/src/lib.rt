@@ -5,9 +5,9 @@
 //! dropped, a lone carriage return ends a record too, and blank lines are no records. A quote that is never
 //! closed goes on to the end, and bytes behind a closing quote join the cell.
 //!
-//! They are read by loops of this crate, which pass over a cell as one run of bytes. The kit's own reader looks
-//! each byte up in the tables of its state machine, at twice the cost; that both read the same is what the
-//! clause of `Records::next` says.
+//! They are read by loops of this crate, which pass over a cell as one run of bytes, where the kit's own reader
+//! looks bytes up one by one in the tables of its state machine. That both read the same is what the clause of
+//! `Records::next` says.
 //!
 //! A contract sees `Records` as the list of the records that are left, so reading a record is taking the
 //! head of that list. No text has more records than bytes and one, and no record more fields.
