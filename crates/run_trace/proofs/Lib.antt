@@ -1,1 +1,4 @@
-mod Replays
+mod Changes
+mod Counted
+mod Inboxes
+pub mod Replays

@@ -1,2 +1,3 @@
+pub mod Gauging
 pub mod Replay
 pub mod Runs

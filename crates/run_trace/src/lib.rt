@@ -6,9 +6,13 @@
 //! is no event's, the first event that isn't enabled with the guard that fails first, or that the run isn't finished.
 //! What follows `finished` isn't read.
 //!
+//! What stands outside the pools is counted once, at the start; then each event adds what it puts out and takes off what goes
+//! back, which the top of its worker's stack tells (`specs/Gauging.antt`).
+//!
 //! The lines themselves are those of `trace_text`.
 #![tactic(auto)]
 
+mod gauging;
 pub mod laws;
 mod replaying;
 

@@ -3,10 +3,12 @@ ghost use Rattle.std.specs.Prelude.{◌≡◌, ◌≤◌, ◌<◌, ◌+◌, ◌^
 ghost use Rattle.std.specs.Str.Lines.{lines};
 ghost use Rattle.trace_text.specs.Faults.{Gives, GivesFault};
 ghost use Rattle.trace_text.specs.Reading.{event_of};
+ghost use Rattle.world_core.specs.Gauge.{gauge_of};
 ghost use Rattle.world_core.specs.World.{Fits, start_world};
 ghost use Rattle.run_trace.specs.Replay.{Taken, event_on, finish, greater, line_number, replayed, with_event};
 ghost use Rattle.run_trace.specs.Runs.{begun};
 
+use crate::gauging::step_counted;
 use adfs_base::{FILE_BYTES, Shape};
 use match_context::Expand;
 use std::alloc::Global;
@@ -40,23 +42,26 @@ fn line_number(so_far: &Replayed) -> u32
     so_far.events as u32 + 6
 }
 
-// Makes the event of a line.
+// Makes the event of a line, and keeps count of what stands outside the pools.
 fn take_event<X: Expand>(
     world: &mut World,
     x: &X,
     so_far: &Replayed,
     line: &[u8],
+    gauge: &mut Gauge,
 ) -> Result<(), ReplayFault>
     requires fits { Fits (X.tree x.now) world.old.shared }
     requires few { so_far.now.events + 6 < 2 ^ 32 }
+    requires counted { gauge.old ≡ gauge_of world.old }
     ensures fits { Fits (X.tree x.now) world.new.shared }
+    ensures counted { OnOk result (gauge.new ≡ gauge_of world.new) }
     ensures made { OnOk result (Taken (X.tree x.now) world.old so_far.now line.now world.new) }
     ensures fault { IfErr result (λ why. GivesFault why (event_on world.old so_far.now (event_of line.now))) }
 {
     let Some(event) = read_event(line) else {
         return Err(ReplayFault::BadLine(line_number(so_far)));
     };
-    match world.step(x, &event) {
+    match step_counted(world, x, &event, gauge) {
         Stepped::Done => Ok(()),
         Stepped::NotEnabled(guard) => Err(ReplayFault::NotEnabled(line_number(so_far), guard)),
         Stepped::NoMemory => Err(ReplayFault::NoMemory),
@@ -104,19 +109,20 @@ fn replay_lines<X: Expand>(world: &mut World, x: &X, text: &[u8]) -> Result<Repl
     requires short { length text.now ≤ FILE_BYTES }
     ensures exact { Gives (λ told. told) result (replayed (X.tree x.now) (lines text.now) world.old (begun world.old)) }
 {
+    let mut gauge = world.gauge();
     let mut so_far = Replayed {
         events: 0,
-        most: world.gauge(),
+        most: gauge,
     };
     let mut lines = Lines::new(text);
     'lines: while let Some(line) = lines.next() {
         if says_finished(line) {
             return finish(world, so_far);
         }
-        if let Err(why) = take_event(world, x, &so_far, line) {
+        if let Err(why) = take_event(world, x, &so_far, line, &mut gauge) {
             return Err(why);
         }
-        so_far = with_event(so_far, world.gauge());
+        so_far = with_event(so_far, gauge);
     }
     Err(ReplayFault::NotFinished)
 }

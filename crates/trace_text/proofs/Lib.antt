@@ -5,3 +5,4 @@ mod LineEnds
 pub mod Lines
 mod Numerals
 mod Places
+pub mod PlainLines

@@ -1,5 +1,5 @@
 //! The line of an event, written and read.
-ghost use Rattle.std.specs.Prelude.{◌≡◌, ◌++◌, ◌*◌, ◌↔◌, OnOk, Some};
+ghost use Rattle.std.specs.Prelude.{◌≡◌, ◌<◌, ◌^◌, ◌++◌, ◌*◌, ◌↔◌, OnOk, Some};
 ghost use Rattle.trace_text.specs.EventLines.{IsEvent, event_line, next_number};
 ghost use Rattle.dfs_worker.specs.declared.event.Event.TheVariants as event;
 ghost use Rattle.trace_text.specs.Reading.{event_of, event_said};
@@ -10,21 +10,24 @@ use adfs_base::NoMemory;
 use dfs_worker::Event;
 
 fn put_one(kind: &str, w: u32, out: &mut Vec<u8>) -> Result<(), NoMemory>
-    ensures { OnOk result (out.new.items ≡ out.old.items ++ (kind.now ++ next_number w)) }
+    ensures number { w < 2 ^ 32 }
+    ensures line { OnOk result (out.new.items ≡ out.old.items ++ (kind.now ++ next_number w)) }
 {
     out.extend_from_slice(kind.as_bytes())?;
     put_next(w, out)
 }
 
 fn put_two(kind: &str, w: u32, stage: u32, out: &mut Vec<u8>) -> Result<(), NoMemory>
-    ensures { OnOk result (out.new.items ≡ out.old.items ++ (kind.now ++ (next_number w ++ next_number stage))) }
+    ensures numbers { (w < 2 ^ 32) × (stage < 2 ^ 32) }
+    ensures line { OnOk result (out.new.items ≡ out.old.items ++ (kind.now ++ (next_number w ++ next_number stage))) }
 {
     put_one(kind, w, out)?;
     put_next(stage, out)
 }
 
 fn put_three(kind: &str, w: u32, a: u32, b: u32, out: &mut Vec<u8>) -> Result<(), NoMemory>
-    ensures { OnOk result (out.new.items ≡ out.old.items ++ (kind.now ++ (next_number w ++ (next_number a ++ next_number b)))) }
+    ensures numbers { (w < 2 ^ 32) × (a < 2 ^ 32) × (b < 2 ^ 32) }
+    ensures line { OnOk result (out.new.items ≡ out.old.items ++ (kind.now ++ (next_number w ++ (next_number a ++ next_number b)))) }
 {
     put_two(kind, w, a, out)?;
     put_next(b, out)
@@ -34,7 +37,8 @@ fn put_three(kind: &str, w: u32, a: u32, b: u32, out: &mut Vec<u8>) -> Result<()
 ///
 /// After `NoMemory` a front of the line may stand there, so what was written is of no use.
 pub fn put_event(event: &Event, out: &mut Vec<u8>) -> Result<(), NoMemory>
-    ensures { OnOk result (out.new.items ≡ out.old.items ++ event_line event.now) }
+    ensures numbers { IsEvent event.now }
+    ensures line { OnOk result (out.new.items ≡ out.old.items ++ event_line event.now) }
 {
     match *event {
         Event::Claim { w } => put_one("claim", w, out),

@@ -1,8 +1,8 @@
 //! What a run is on, as the first lines of its trace say it.
-ghost use Rattle.std.specs.Prelude.{◌≡◌, ◌*◌, ◌+◌, ◌≤◌, ◌∷◌, [], ◌==◌, Err, IfErr, IfOk, MatchOption, None, Ok, Some, drop, length, position, slice_get};
+ghost use Rattle.std.specs.Prelude.{◌≡◌, ◌*◌, ◌+◌, ◌≤◌, ◌∷◌, [], ◌==◌, Err, IfErr, IfOk, MatchOption, None, Ok, Some, drop, length, position, slice_get, true};
 ghost use Rattle.std.specs.Str.Lines.{lines};
 ghost use Rattle.trace_text.specs.Faults.{Gives};
-ghost use Rattle.trace_text.specs.Headers.{Follows, header_of, header_with, name_on, part_on, read_at, shape_on, version_on};
+ghost use Rattle.trace_text.specs.Headers.{Follows, are_in_limits, header_of, header_with, name_on, numbers_in, part_on, read_at, shape_on, version_on};
 ghost use Rattle.trace_text.specs.Said.{part_seen};
 ghost use Rattle.trace_text.specs.declared.fault.ReplayFault.TheVariants as fault;
 
@@ -110,6 +110,7 @@ fn name_at<'a>(
 fn shape_at(bytes: &[u8], from: usize) -> Result<(Sizes, usize), ReplayFault>
     requires { Follows bytes.now 3 from }
     ensures read { IfOk result (λ found. read_at shape_on 3 (lines bytes.now) ≡ Ok found.0) }
+    ensures limits { IfOk result (λ found. are_in_limits found.0 ≡ true) }
     ensures follows { IfOk result (λ found. Follows bytes.now 4 found.1) }
     ensures fault { IfErr result (λ fault. read_at shape_on 3 (lines bytes.now) ≡ Err fault) }
 {
@@ -145,6 +146,7 @@ struct Said<'a> {
 
 fn said_by(bytes: &[u8]) -> Result<(Said<'_>, usize), ReplayFault>
     ensures said { IfOk result (λ found. header_of (lines bytes.now) ≡ Ok (header_with found.0.manifest.now found.0.queries.now found.0.sizes (part_seen found.0.part))) }
+    ensures limits { IfOk result (λ found. are_in_limits found.0.sizes ≡ true) }
     ensures follows { IfOk result (λ found. Follows bytes.now 5 found.1) }
     ensures fault { IfErr result (λ fault. header_of (lines bytes.now) ≡ Err fault) }
 {
@@ -198,6 +200,7 @@ fn header_from(alloc: Global, said: &Said<'_>) -> Result<Header, NoMemory>
 /// dropped.
 pub fn read_header(alloc: Global, bytes: &[u8]) -> Result<(Header, u64), ReplayFault>
     ensures exact { Gives (λ found. found.0) result (header_of (lines bytes.now)) }
+    ensures limits { IfOk result (λ found. are_in_limits (numbers_in found.0) ≡ true) }
     ensures follows { IfOk result (λ found. Follows bytes.now 5 found.1) }
 {
     let (said, next) = said_by(bytes)?;

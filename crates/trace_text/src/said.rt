@@ -1,5 +1,5 @@
 //! What the first lines of a trace say, in the place where they stand.
-ghost use Rattle.std.specs.Prelude.{◌≡◌, ◌*◌, ℕ, List, None, Option, Some, codes, drop, nat_le};
+ghost use Rattle.std.specs.Prelude.{◌≡◌, ◌*◌, ℕ, IfSome, List, None, Option, Some, codes, drop, nat_le, true};
 ghost use Rattle.std.specs.List.{list_all};
 ghost use Rattle.std.specs.Option.{option_map};
 ghost use Rattle.trace_text.specs.Headers.{after_word, are_in_limits, file_of, first_of, is_between, is_file_text, limited, listed_of, name_on, numbers_of, part_of, part_on, shape_on};
@@ -106,7 +106,8 @@ fn are_in_limits(numbers: &Sizes) -> bool
 
 /// The numbers of a shape, each within its limits.
 pub(crate) fn shape_on(line: &[u8]) -> Option<Sizes>
-    ensures { result ≡ shape_on line.now }
+    ensures said { result ≡ shape_on line.now }
+    ensures limits { IfSome result (λ sizes. are_in_limits sizes ≡ true) }
 {
     let numbers = numbers(after_word(line, "shape")?)?;
     if are_in_limits(&numbers) {

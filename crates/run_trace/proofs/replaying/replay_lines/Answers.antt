@@ -20,11 +20,13 @@ returns-in-Err g c =
 pub lines-preserved : goal.lines-preserved
 lines-preserved g c =
     let size : length c.lines.lines ≡ length c.next.new.self + 1 = ap length c.in-Some.ensures.line ∙ sym (add-one (length c.next.new.self)) in
-    let counted = c.with_event-so_far.ensures ∙ ap (with_event c.lines.so_far) c.gauge-in-Some.ensures.counted in
+    let gauge = c.in_default-take_event.ensures.counted in
+    let counted = c.with_event-so_far.ensures ∙ ap (with_event c.lines.so_far) gauge in
     record {
       fits = c.take_event.ensures.fits;
       same = left_event (g.X.Expand.tree c.args.x.now) c.in-Some.line.now c.lines.lines c.next.new.self c.lines.world c.take_event.new.world c.lines.so_far
           c.with_event-so_far.result _ c.lines.invariant.same c.in-Some.ensures.line c.if-says_finished.ensures c.in_default-take_event.ensures.made counted;
+      counted = gauge;
       few = omega (arith, size, c.lines.invariant.few, ap (λ told. told.events) c.with_event-so_far.ensures);
     }
 

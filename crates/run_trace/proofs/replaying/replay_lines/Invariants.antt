@@ -1,5 +1,6 @@
 use Rattle.std.proofs.Common.{◌≡◌, ◌≤◌, ◌+◌, length}
 use Rattle.std.specs.Str.Lines.{lines}
+use Rattle.world_core.specs.Gauge.{gauge_of}
 use Rattle.world_core.specs.World.{Fits}
 use Rattle.run_trace.specs.Replay.{replayed}
 use Rattle.run_trace.specs.Runs.{begun}
@@ -10,6 +11,7 @@ abbrev pub invariant-lines : goal.invariant-lines
 invariant-lines g l = record {
   fits : Fits (g.X.Expand.tree l.x) l.world.shared;
   same : replayed (g.X.Expand.tree l.x) (lines l.text) l.fn.world (begun l.fn.world) ≡ replayed (g.X.Expand.tree l.x) l.lines l.world l.so_far;
+  counted : l.gauge ≡ gauge_of l.world;
   few : l.so_far.events + length l.lines ≤ length l.text + 1;
 }
 
