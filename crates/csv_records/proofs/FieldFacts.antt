@@ -1,13 +1,14 @@
 -- What the machine makes of a field.
-use Rattle.std.proofs.Common.{◌≡◌, refl, ◌+◌, ℕ, suc, ◌||◌, Bool, true, false, cond, List, [], ◌∷◌, ◌++◌, take, drop, append_assoc, append-nil, one-add, eqb-true, ◌==◌}
+use Rattle.std.proofs.Common.{◌≡◌, ◌∙◌, sym, ap, refl, arith, ◌+◌, ℕ, suc, not, ◌||◌, Bool, true, false, cond, List, [], ◌∷◌, ◌++◌, take, drop, Option, Some, None, append_assoc, append-nil, one-add, tests, eqb-true, ◌==◌}
 use Rattle.std.proofs.Common.{true≢false}
 use Rattle.std.proofs.lemmas.Bool.{false≢true}
 use Rattle.std.specs.List.{position_or_len}
 use Rattle.csv.specs.Machine.{next_record, step}
 use Rattle.csv.specs.Reading.{default_config}
 use Rattle.csv.specs.declared.parser.Action.TheVariants as act
+use Rattle.csv.specs.declared.parser.State.{State}
 use Rattle.csv.specs.declared.parser.State.TheVariants as st
-use Rattle.csv_records.specs.Fields.{ends_field, ends_line, goes_on, is_quote, is_quoted, record_after, record_from}
+use Rattle.csv_records.specs.Fields.{begins_record, ends_field, ends_line, goes_on, is_quote, is_quoted, record_after, record_from, record_within}
 
 abbrev field_end : List ℕ → ℕ
 field_end text = position_or_len ends_field text

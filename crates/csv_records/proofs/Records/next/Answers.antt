@@ -1,5 +1,7 @@
-use Rattle.std.proofs.Common.{◌∙◌, sym, refl, true, false}
+use Rattle.std.proofs.Common.{◌≡◌, ◌∙◌, ◌==◌, sym, refl, true, false, length, drop}
+use Rattle.std.specs.List.{position_or_len}
 use Rattle.csv.specs.Records.{fields_of}
+use Rattle.csv_records.specs.Fields.{begins_record}
 use Rattle.csv_records.proofs.PlaceFacts.{on_err}
 use Rattle.csv_records.proofs.TableFacts.{no_bytes, none_read, record_read}
 use Rattle.csv_records.proofs.Records.next.Goals as goal
