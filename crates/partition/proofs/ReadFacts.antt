@@ -129,6 +129,22 @@ module _ (machines : ℕ) (shared : Shared) (own : Own) (a : Lists) (out : Bool)
   pub link_read : (place n : ℕ) (link : Link) → link_there a place n ≡ Some link → option_map link_of_entry (entry_at out (part_in machines shared own) place n) ≡ Some link
   link_read place n link at = rw (entry_in place n, at) refl
 
+  -- all links of a list
+  pub links_read : (place : ℕ) (links : List Link) → slice_get (link_lists a) place ≡ Some links
+      → option_map (map link_of_entry) (slice_get (lists_of out (part_in machines shared own)) place) ≡ Some links
+  links_read place links at =
+      ap (λ (lists : List (List Entry)). option_map (map link_of_entry) (slice_get lists place)) (lists_in out)
+      ∙ rw (← is) (same (link_lists a) place ∙ at)
+    where
+      back : (ls : List Link) → map link_of_entry (map (entry_from shared.edges) ls) ≡ ls
+      back [] = refl
+      back (l ∷ ls) = ap (λ rest. l ∷ rest) (back ls)
+
+      same : (lists : List (List Link)) (i : ℕ) → option_map (map link_of_entry) (slice_get (map (λ links. map (entry_from shared.edges) links) lists) i) ≡ slice_get lists i
+      same [] i = refl
+      same (l ∷ ls) zero = ap Some (back l)
+      same (l ∷ ls) (suc i) = same ls i
+
   -- an entry as it is read
   pub entry_read : (place n : ℕ) (link : Link) (key : ℤ) → link_there a place n ≡ Some link → link.edge < length shared.edges
       → option_map (λ (e : Element). e.key) (slice_get shared.edges link.edge) ≡ Some key

@@ -1,5 +1,5 @@
 //! A machine's part of a graph, and its readers.
-ghost use Rattle.std.specs.Prelude.{◌≡◌, ◌<◌, ◌^◌, ℤ, ℕ, IfSome, IsSome, Some, if◌then◌else◌, length, option_and_then, nat_eq, position, slice_get, slice_index};
+ghost use Rattle.std.specs.Prelude.{◌≡◌, ◌<◌, ◌^◌, ℤ, ℕ, IfSome, IsSome, Some, if◌then◌else◌, length, map, option_and_then, nat_eq, position, slice_get, slice_index};
 ghost use Rattle.std.specs.List.{AllByRecursion};
 ghost use Rattle.std.specs.Option.{option_map};
 ghost use Rattle.element_store.specs.Columns.{value_of};
@@ -135,6 +135,15 @@ impl Part {
         link_at(in_direction(out, &self.own), place, no)
     }
 
+    /// The outgoing list of the vertex at a place, or the incoming one, but for its edges' keys and values.
+    pub fn links(&self, place: u32, out: bool) -> &[Link]
+        requires { place < length self.now.vertices }
+        ensures links { option_map (map link_of_entry) (slice_get (lists_of out self.now) place) ≡ Some result.now }
+        ensures few { length result.now < 2 ^ 32 }
+    {
+        links_at(in_direction(out, &self.own), place)
+    }
+
     /// An entry of a list of the vertex at a place, but for its edge's values.
     pub fn entry(&self, place: u32, out: bool, no: u32) -> Adjacent
         requires { IsSome (entry_at out self.now place no) }
@@ -174,6 +183,17 @@ fn degree_at(lists: &Lists, place: u32) -> u32
     ensures { option_map length (slice_get (link_lists lists.now) place) ≡ Some result }
 {
     lists.spans[place as usize].degree
+}
+
+// The list at a place.
+fn links_at(lists: &Lists, place: u32) -> &[Link]
+    requires place { place < length lists.now.spans.items }
+    requires spans { AllByRecursion (IsSpan (length lists.now.links.items)) lists.now.spans.items }
+    ensures links { slice_get (link_lists lists.now) place ≡ Some result.now }
+    ensures few { length result.now < 2 ^ 32 }
+{
+    let span = lists.spans[place as usize];
+    &lists.links[span.start..span.start + span.degree as usize]
 }
 
 // A link of the list at a place.

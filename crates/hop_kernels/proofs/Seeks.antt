@@ -1,0 +1,279 @@
+-- What is taken of a frame in one go is what `next` would give, place by place.
+use Rattle.std.proofs.Common.{◌≡◌, ℕ, zero, suc, ◌+◌, ◌-◌, ◌<◌, ◌≤◌, Bool, true, false, cond, ◌==◌, ◌&&◌, List, [], ◌∷◌, length, get_or, drop, map, Option, Some, None, refl, sym, ap, ap₂, subst, ◌∙◌, arith}
+use Rattle.std.specs.Prelude.{slice_get, slice_index}
+use Rattle.std.specs.Option.{option_and_then, option_map}
+use Rattle.match_context.specs.Passes.{Passes, found_of, with_child}
+use Rattle.match_context.specs.Tree.{Below, Item, Leaf, Pass, after, answer}
+use Rattle.match_context.specs.declared.expand.Found.{Found}
+use Rattle.match_context.specs.declared.expand.Found.TheVariants as found
+use Rattle.match_context.specs.declared.expand.Next.{Next}
+use Rattle.match_context.specs.declared.expand.Next.TheVariants.{Child, Row, Skip, End}
+use Rattle.match_context.specs.declared.frame.Frame.{Frame}
+use Rattle.partition.specs.Parts.{Entry, MachinePart, link_of_entry, entry_at, lists_of}
+use Rattle.partition.specs.declared.link.Link.{Link}
+use Rattle.pgql_meaning.specs.Fits.{has_labels, is_in_lists}
+use Rattle.typed_expr.specs.declared.query.Query.{Query}
+use Rattle.value_text.specs.Texts.{text_at}
+use Rattle.stage_plan.specs.Walk.{captures_of, edge_of}
+use Rattle.stage_plan.specs.declared.hop.Hop.TheVariants as hop
+use Rattle.stage_plan.specs.declared.stage.Gains.{Gains}
+use Rattle.stage_plan.specs.declared.stage.Stage.{Stage}
+use Rattle.plan_tree.specs.Answers.{ahead, all_hold, arrived, edge_in, entries_in, if_any, is_vertex, items_after, items_of, labels_of, others, place_after, to_bound, to_neighbour, words_after, words_or}
+use Rattle.plan_tree.specs.PlanTree.{PlanOverParts, taken, tree_of}
+use Rattle.plan_tree.specs.Told.{all_told, written}
+use Rattle.hop_kernels.specs.Entries.{after_answer, answer_along}
+use Rattle.hop_kernels.specs.Fitting.{GainsFit, HasRoom, IsThere}
+use Rattle.hop_kernels.specs.Looks.{one_answer}
+use Rattle.hop_kernels.specs.Seeks.{GoesAlong, IsFirstSought, IsSought, answer_by, child_words, ends_at, kept_context, leads}
+use Rattle.hop_kernels.specs.Spots.{entry_in}
+use Rattle.hop_kernels.proofs.EntryLists.{answer_at, bound-ahead, bound-at, if_any-answer, neighbour-ahead}
+use Rattle.hop_kernels.proofs.SeenWords.{along-is}
+
+-- ---- entries
+
+-- whether a child comes of an entry, by what is read of it
+pub leads-of : (texts : List (List ℕ)) (q : Query) (gains : Gains) (edge : ℕ) (end : Option ℕ) (words : List ℕ) (e : Entry) (link : Link) (a b c : Bool) → link_of_entry e ≡ link
+    → ends_at end link.other ≡ a → is_in_lists (text_at texts link.label) (labels_of q edge) ≡ b
+    → all_hold texts q (written q (edge_in e) (captures_of q edge) words) gains.conjuncts ≡ c
+    → leads texts q gains edge end words e ≡ (a && (b && c))
+leads-of texts q gains edge end words e link a b c is ends labelled hold =
+    ap₂ (λ x y. x && (y && all_hold texts q (written q (edge_in e) (captures_of q edge) words) gains.conjuncts))
+    (ap (λ (l : Link). ends_at end l.other) is ∙ ends) (ap (λ (l : Link). is_in_lists (text_at texts l.label) (labels_of q edge)) is ∙ labelled)
+    ∙ ap (λ z. a && (b && z)) hold
+
+-- an entry of a list by its place
+pub link-at : (out : Bool) (part : MachinePart) (place i : ℕ) (links : List Link) (d : Link) → option_map (map link_of_entry) (slice_get (lists_of out part) place) ≡ Some links → i < length links
+    → option_map link_of_entry (entry_at out part place i) ≡ Some (get_or links i d)
+link-at out part place i links d is below = at_list (slice_get (lists_of out part) place) is where
+  at_entries : (es : List Entry) (k : ℕ) → k < length (map link_of_entry es) → option_map link_of_entry (slice_get es k) ≡ Some (get_or (map link_of_entry es) k d)
+  at_entries [] k less = absurd (omega arith)
+  at_entries (e ∷ es) zero less = refl
+  at_entries (e ∷ es) (suc k) less = at_entries es k (omega arith)
+
+  at_list : (o : Option (List Entry)) → option_map (map link_of_entry) o ≡ Some links → option_map link_of_entry (option_and_then (λ (list : List Entry). slice_get list i) o) ≡ Some (get_or links i d)
+  at_list None e = cc e
+  at_list (Some es) e =
+      let same : map link_of_entry es ≡ links = cc e in
+      at_entries es i (subst (λ (ls : List Link). i < length ls) (sym same) below) ∙ ap (λ (ls : List Link). Some (get_or ls i d)) same
+
+-- no entry past the end
+pub link-past : (out : Bool) (part : MachinePart) (place i : ℕ) (links : List Link) → option_map (map link_of_entry) (slice_get (lists_of out part) place) ≡ Some links → length links ≤ i
+    → entry_at out part place i ≡ None
+link-past out part place i links is past = at_list (slice_get (lists_of out part) place) is where
+  at_entries : (es : List Entry) (k : ℕ) → length (map link_of_entry es) ≤ k → slice_get es k ≡ None
+  at_entries [] k less = refl
+  at_entries (e ∷ es) zero less = absurd (omega arith)
+  at_entries (e ∷ es) (suc k) less = at_entries es k (omega arith)
+
+  at_list : (o : Option (List Entry)) → option_map (map link_of_entry) o ≡ Some links → option_and_then (λ (list : List Entry). slice_get list i) o ≡ None
+  at_list None e = refl
+  at_list (Some es) e =
+      let same : map link_of_entry es ≡ links = cc e in
+      at_entries es i (subst (λ (ls : List Link). length ls ≤ i) (sym same) past)
+
+-- ---- hops
+
+module _ (texts : List (List ℕ)) (q : Query) (part : MachinePart) (stage : Stage) (words : List ℕ) (out : Bool) (edge to : ℕ) (room : HasRoom q) (size : length words ≡ 40)
+    (fit : GainsFit q (Some edge) stage.passage) (edge_there : edge < length q.variables) where
+  along-answer : (there : Option ℕ) (e : Entry) → IsThere q there
+      → answer_along texts q stage.passage edge there words e ≡ answer_by texts q stage.passage edge there None words (Some e)
+  along-answer there e end_there = along-is texts q stage.passage edge there words e _ _ room size fit edge_there end_there refl refl
+
+  -- a hop to a new vertex
+  pub neighbour-along : to < length q.variables → stage.hop ≡ hop.Neighbour out edge to → all_told texts q words (others q edge stage.passage.reads) ≡ true
+      → GoesAlong texts q part stage out edge (Some to) None words
+  neighbour-along to_there is told number =
+      neighbour-ahead texts q part stage words out edge to number is told ∙ at_entry (slice_get (entries_in out part (slice_index words (1 + stage.current))) number)
+    where
+      at_entry : (o : Option Entry) → answer_at (to_neighbour texts q stage.passage edge to words) o ≡ answer_by texts q stage.passage edge (Some to) None words o
+      at_entry None = refl
+      at_entry (Some e) = along-answer (Some to) e to_there
+
+  -- a hop to a vertex that is bound
+  pub bound-along : stage.hop ≡ hop.Edge out edge to → is_vertex part (slice_index words (1 + to)) ≡ true → all_told texts q words (others q edge stage.passage.reads) ≡ true
+      → GoesAlong texts q part stage out edge None (Some (slice_index words (1 + to))) words
+  bound-along is vertex told number =
+      bound-ahead texts q part stage words out edge to number is vertex told ∙ at_entry (slice_get (entries_in out part (slice_index words (1 + stage.current))) number)
+    where
+      by_end : (e : Entry) (b : Bool) → cond b (answer_along texts q stage.passage edge None words e) Skip
+          ≡ cond (b && (has_labels texts (labels_of q edge) (edge_in e) && all_hold texts q (written q (edge_in e) (captures_of q edge) words) stage.passage.conjuncts))
+          (Child (record { words = child_words q stage.passage edge None words e }) e.machine) Skip
+      by_end e true = along-answer None e tt
+      by_end e false = refl
+
+      at_entry : (o : Option Entry) → answer_at (to_bound texts q stage.passage edge to words) o
+          ≡ answer_by texts q stage.passage edge None (Some (slice_index words (1 + to))) words o
+      at_entry None = refl
+      at_entry (Some e) = bound-at texts q stage.passage edge to words e (e.other == slice_index words (1 + to)) refl ∙ by_end e (e.other == slice_index words (1 + to))
+
+-- ---- what was sought
+
+-- nothing is ahead
+pub sought-end : (items : List Item) (old : Frame) → answer (drop old.place items) ≡ End → IsSought items old 0 found.End old
+sought-end items old is =
+    let here : old.place + 0 ≡ old.place = omega arith in
+    let none : answer (drop (old.place + 0) items) ≡ End = ap (λ p. answer (drop p items)) here ∙ is in
+    record {
+      passed_over = λ i from below. absurd (omega arith);
+      found_is = sym (ap found_of none);
+      leaves = sym (ap (λ a. with_child a (record old { place = after_answer a (old.place + 0) (old.place + 0 + 1) })) none ∙ ap (λ p. record old { place = p }) here);
+    }
+
+-- what is ahead at the first place that isn't passed over
+pub sought-at : (items : List Item) (old : Frame) (at passed : ℕ) (a : Next) (what : Found) (new : Frame) → old.place ≤ at → passed ≡ at - old.place
+    → ((i : ℕ) → old.place ≤ i → i < at → answer (drop i items) ≡ Skip) → answer (drop at items) ≡ a → what ≡ found_of a
+    → new ≡ with_child a (record old { place = after_answer a at (at + 1) }) → IsSought items old passed what new
+sought-at items old at passed a what new from count skips ahead is leaves =
+    let here : old.place + passed ≡ at = omega arith in
+    let next : answer (drop (old.place + passed) items) ≡ a = ap (λ p. answer (drop p items)) here ∙ ahead in
+    record {
+      passed_over = λ i low below. skips i low (omega arith);
+      found_is = is ∙ sym (ap found_of next);
+      leaves = leaves ∙ sym (ap₂ (λ b p. with_child b (record old { place = after_answer b p (p + 1) })) next here);
+    }
+
+-- ---- places of a tree
+
+module _ (over : PlanOverParts) (machine : ℕ) (part : MachinePart) (stage : Stage) (part_there : slice_get over.parts machine ≡ Some part) where
+  items : List ℕ → List Item
+  items words = items_of over.texts over.query part stage words
+
+  abbrev in_tree : {X : Type 0} → (MachinePart → Stage → X) → X → ℕ → X
+  in_tree f none number = taken f none (slice_get over.parts machine) (slice_get over.plan.stages number)
+
+  in_tree-is : {X : Type 0} (f : MachinePart → Stage → X) (none : X) (number : ℕ) → slice_get over.plan.stages number ≡ Some stage → in_tree f none number ≡ f part stage
+  in_tree-is f none number stage_there = ap₂ (λ a b. taken f none a b) part_there stage_there
+
+  -- the answer at a place of a frame, and what it leaves
+  answer-tree : (old : Frame) → slice_get over.plan.stages old.stage ≡ Some stage
+      → answer ((tree_of over).ahead machine old.stage old.context old.place) ≡ answer (ahead over.texts over.query part stage old.context.words old.place)
+  answer-tree old there = ap answer (in_tree-is (λ here s. ahead over.texts over.query here s old.context.words old.place) [] old.stage there)
+
+  after-tree : (old : Frame) → slice_get over.plan.stages old.stage ≡ Some stage
+      → after (tree_of over) machine old ≡ record old {
+          context = record { words = words_after over.texts over.query part stage old.context.words old.place };
+          place = place_after over.texts over.query part stage old.context.words old.place;
+        }
+  after-tree old there =
+      ap₂ (λ ws p. record old { context = record { words = ws }; place = p })
+      (in_tree-is (λ here s. words_after over.texts over.query here s old.context.words old.place) old.context.words old.stage there)
+      (in_tree-is (λ here s. place_after over.texts over.query here s old.context.words old.place) old.place old.stage there)
+
+  -- at a later place
+  ahead-later : (words : List ℕ) (place : ℕ) → 0 < place → ahead over.texts over.query part stage words place ≡ drop place (items words)
+  ahead-later words zero some = absurd (omega arith)
+  ahead-later words (suc place) some = refl
+
+  words-later : (words : List ℕ) (place : ℕ) → 0 < place → words_after over.texts over.query part stage words place ≡ words
+  words-later words zero some = absurd (omega arith)
+  words-later words (suc place) some = both (drop (suc place) (items words)) where
+    both : (is : List Item) → if_any is words words ≡ words
+    both [] = refl
+    both (i ∷ is) = refl
+
+  after-later : (old : Frame) → slice_get over.plan.stages old.stage ≡ Some stage → 0 < old.place
+      → after (tree_of over) machine old ≡ record old { place = after_answer (answer (drop old.place (items old.context.words))) old.place (old.place + 1) }
+  after-later old there some =
+      after-tree old there
+      ∙ ap₂ (λ ws p. record old { context = record { words = ws }; place = p }) (words-later old.context.words old.place some)
+      (ap (λ is. if_any is old.place (old.place + 1)) (ahead-later old.context.words old.place some)
+      ∙ if_any-answer (drop old.place (items old.context.words)) old.place (old.place + 1))
+
+  pub passes-later : (passed : ℕ) (old : Frame) (what : Found) (new : Frame) → slice_get over.plan.stages old.stage ≡ Some stage → 0 < old.place
+      → IsSought (items old.context.words) old passed what new → Passes (tree_of over) machine old passed what new
+  passes-later zero old what new there some sought =
+      let here : old.place + 0 ≡ old.place = omega arith in
+      let now : answer ((tree_of over).ahead machine old.stage old.context old.place) ≡ answer (drop old.place (items old.context.words)) =
+      answer-tree old there ∙ ap answer (ahead-later old.context.words old.place some) in
+      (sought.found_is ∙ ap (λ p. found_of (answer (drop p (items old.context.words)))) here ∙ sym (ap found_of now),
+      sought.leaves
+      ∙ ap (λ p. with_child (answer (drop p (items old.context.words))) (record old { place = after_answer (answer (drop p (items old.context.words))) p (p + 1) })) here
+      ∙ sym (ap₂ (λ a f. with_child a f) now (after-later old there some)))
+  passes-later (suc passed) old what new there some sought =
+      let is = items old.context.words in
+      let skip : answer (drop old.place is) ≡ Skip = sought.passed_over old.place (omega arith) (omega arith) in
+      let next : Frame = record old { place = old.place + 1 } in
+      let one : after (tree_of over) machine old ≡ next = after-later old there some ∙ ap (λ a. record old { place = after_answer a old.place (old.place + 1) }) skip in
+      let count : old.place + suc passed ≡ (old.place + 1) + passed = omega arith in
+      let later : IsSought is next passed what new = record {
+        passed_over = λ i low below. sought.passed_over i (omega arith) (omega arith);
+        found_is = sought.found_is ∙ ap (λ p. found_of (answer (drop p is))) count;
+        leaves = sought.leaves ∙ ap (λ p. with_child (answer (drop p is)) (record old { place = after_answer (answer (drop p is)) p (p + 1) })) count;
+      } in
+      (answer-tree old there ∙ ap answer (ahead-later old.context.words old.place some) ∙ skip,
+      subst (λ f. Passes (tree_of over) machine f passed what new) (sym one) (passes-later passed next what new there (omega arith) later))
+
+  -- ---- at the first place
+
+  module _ (frame : Frame) (there : slice_get over.plan.stages frame.stage ≡ Some stage) (passed : ℕ) (what : Found) (new : Frame) where
+    start : Frame
+    start = record frame { place = 0 }
+
+    before : List ℕ
+    before = frame.context.words
+
+    reached : Option (List ℕ) → Frame
+    reached o = record start {
+      context = record { words = if_any (items_after items o) before (words_or before o) };
+      place = if_any (items_after items o) 0 1;
+    }
+
+    answer-first : (o : Option (List ℕ)) → arrived over.texts over.query part stage before ≡ o
+        → answer ((tree_of over).ahead machine start.stage start.context start.place) ≡ answer (items_after items o)
+    unfolding start before items
+    answer-first o is = answer-tree start there ∙ ap (λ o. answer (items_after items o)) is
+
+    after-first : (o : Option (List ℕ)) → arrived over.texts over.query part stage before ≡ o → after (tree_of over) machine start ≡ reached o
+    unfolding start before items reached
+    after-first o is = after-tree start there ∙ ap reached is
+
+    -- where nothing was passed over
+    taken-first : (words : List ℕ) (is : List Item) (left : Frame) → what ≡ found_of (answer is)
+        → left ≡ with_child (answer is) (record start { context = record { words = words }; place = after_answer (answer is) 0 1 })
+        → new ≡ kept_context start 0 what left
+        → new ≡ with_child (answer is) (record start { context = record { words = if_any is before words }; place = if_any is 0 1 })
+    unfolding start before
+    taken-first words [] left found leaves kept = kept ∙ ap (λ w. kept_context start 0 w left) found ∙ ap (λ f. record f { context = frame.context }) leaves
+    taken-first words (Below context to ∷ is) left found leaves kept = kept ∙ ap (λ w. kept_context start 0 w left) found ∙ leaves
+    taken-first words (Leaf context ∷ is) left found leaves kept = kept ∙ ap (λ w. kept_context start 0 w left) found ∙ leaves
+    taken-first words (Pass ∷ is) left found leaves kept = kept ∙ ap (λ w. kept_context start 0 w left) found ∙ leaves
+
+    -- where the first place was passed over
+    skipped-first : (words : List ℕ) (is : List Item) → answer is ≡ Skip
+        → record start { context = record { words = if_any is before words }; place = if_any is 0 1 } ≡ record start { context = record { words = words }; place = 1 }
+    skipped-first words [] skip = cc skip
+    skipped-first words (i ∷ is) skip = refl
+
+    passes-zero : IsFirstSought over.texts over.query part stage start passed what new (arrived over.texts over.query part stage before) → Passes (tree_of over) machine start passed what new
+    passes-zero = by (arrived over.texts over.query part stage before) refl passed where
+      by : (o : Option (List ℕ)) → arrived over.texts over.query part stage before ≡ o → (count : ℕ)
+          → IsFirstSought over.texts over.query part stage start count what new o → Passes (tree_of over) machine start count what new
+      by None is count sought =
+          subst (λ n. Passes (tree_of over) machine start n what new) (sym sought.0)
+          (sought.1.0 ∙ sym (ap found_of (answer-first None is)),
+          sought.1.1 ∙ sym (ap₂ (λ a f. with_child a f) (answer-first None is) (after-first None is)))
+      by (Some words) is zero sought =
+          (sought.1.0.found_is ∙ sym (ap found_of (answer-first (Some words) is)),
+          taken-first words (items words) sought.0 sought.1.0.found_is sought.1.0.leaves sought.1.1
+          ∙ sym (ap₂ (λ a f. with_child a f) (answer-first (Some words) is) (after-first (Some words) is)))
+      by (Some words) is (suc count) sought =
+          let next : Frame = record start { context = record { words = words }; place = 1 } in
+          let skip : answer (items words) ≡ Skip = sought.1.0.passed_over 0 (omega arith) (omega arith) in
+          let one : after (tree_of over) machine start ≡ next = after-first (Some words) is ∙ skipped-first words (items words) skip in
+          let more : 0 + suc count ≡ 1 + count = omega arith in
+          let later : IsSought (items words) next count what sought.0 = record {
+            passed_over = λ i low below. sought.1.0.passed_over i (omega arith) (omega arith);
+            found_is = sought.1.0.found_is ∙ ap (λ p. found_of (answer (drop p (items words)))) more;
+            leaves = sought.1.0.leaves ∙ ap (λ p. with_child (answer (drop p (items words))) (record next { place = after_answer (answer (drop p (items words))) p (p + 1) })) more;
+          } in
+          (answer-first (Some words) is ∙ skip,
+          subst (λ f. Passes (tree_of over) machine f count what new) (sym one)
+          (subst (λ n. Passes (tree_of over) machine next count what n) (sym sought.1.1) (passes-later count next what sought.0 there (omega arith) later)))
+
+  pub passes-first : (old : Frame) (passed : ℕ) (what : Found) (new : Frame) → slice_get over.plan.stages old.stage ≡ Some stage → old.place ≡ 0
+      → IsFirstSought over.texts over.query part stage old passed what new (arrived over.texts over.query part stage old.context.words) → Passes (tree_of over) machine old passed what new
+  passes-first old passed what new there first sought =
+      let same : old ≡ record old { place = 0 } = ap (λ p. record old { place = p }) first in
+      subst (λ f. Passes (tree_of over) machine f passed what new) (sym same)
+      (passes-zero old there passed what new
+      (subst (λ f. IsFirstSought over.texts over.query part stage f passed what new (arrived over.texts over.query part stage f.context.words)) same sought))
