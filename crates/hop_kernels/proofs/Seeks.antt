@@ -151,9 +151,9 @@ module _ (over : PlanOverParts) (machine : ℕ) (part : MachinePart) (stage : St
 
   after-tree : (old : Frame) → slice_get over.plan.stages old.stage ≡ Some stage
       → after (tree_of over) machine old ≡ record old {
-          context = record { words = words_after over.texts over.query part stage old.context.words old.place };
-          place = place_after over.texts over.query part stage old.context.words old.place;
-        }
+        context = record { words = words_after over.texts over.query part stage old.context.words old.place };
+        place = place_after over.texts over.query part stage old.context.words old.place;
+      }
   after-tree old there =
       ap₂ (λ ws p. record old { context = record { words = ws }; place = p })
       (in_tree-is (λ here s. words_after over.texts over.query here s old.context.words old.place) old.context.words old.stage there)
@@ -184,11 +184,12 @@ module _ (over : PlanOverParts) (machine : ℕ) (part : MachinePart) (stage : St
   passes-later zero old what new there some sought =
       let here : old.place + 0 ≡ old.place = omega arith in
       let now : answer ((tree_of over).ahead machine old.stage old.context old.place) ≡ answer (drop old.place (items old.context.words)) =
-      answer-tree old there ∙ ap answer (ahead-later old.context.words old.place some) in
-      (sought.found_is ∙ ap (λ p. found_of (answer (drop p (items old.context.words)))) here ∙ sym (ap found_of now),
-      sought.leaves
-      ∙ ap (λ p. with_child (answer (drop p (items old.context.words))) (record old { place = after_answer (answer (drop p (items old.context.words))) p (p + 1) })) here
-      ∙ sym (ap₂ (λ a f. with_child a f) now (after-later old there some)))
+      answer-tree old there ∙ ap answer (ahead-later old.context.words old.place some) in (
+        sought.found_is ∙ ap (λ p. found_of (answer (drop p (items old.context.words)))) here ∙ sym (ap found_of now),
+        sought.leaves
+            ∙ ap (λ p. with_child (answer (drop p (items old.context.words))) (record old { place = after_answer (answer (drop p (items old.context.words))) p (p + 1) })) here
+            ∙ sym (ap₂ (λ a f. with_child a f) now (after-later old there some)),
+      )
   passes-later (suc passed) old what new there some sought =
       let is = items old.context.words in
       let skip : answer (drop old.place is) ≡ Skip = sought.passed_over old.place (omega arith) (omega arith) in
@@ -199,9 +200,10 @@ module _ (over : PlanOverParts) (machine : ℕ) (part : MachinePart) (stage : St
         passed_over = λ i low below. sought.passed_over i (omega arith) (omega arith);
         found_is = sought.found_is ∙ ap (λ p. found_of (answer (drop p is))) count;
         leaves = sought.leaves ∙ ap (λ p. with_child (answer (drop p is)) (record old { place = after_answer (answer (drop p is)) p (p + 1) })) count;
-      } in
-      (answer-tree old there ∙ ap answer (ahead-later old.context.words old.place some) ∙ skip,
-      subst (λ f. Passes (tree_of over) machine f passed what new) (sym one) (passes-later passed next what new there (omega arith) later))
+      } in (
+        answer-tree old there ∙ ap answer (ahead-later old.context.words old.place some) ∙ skip,
+        subst (λ f. Passes (tree_of over) machine f passed what new) (sym one) (passes-later passed next what new there (omega arith) later),
+      )
 
   -- ---- at the first place
 
@@ -249,13 +251,15 @@ module _ (over : PlanOverParts) (machine : ℕ) (part : MachinePart) (stage : St
       by : (o : Option (List ℕ)) → arrived over.texts over.query part stage before ≡ o → (count : ℕ)
           → IsFirstSought over.texts over.query part stage start count what new o → Passes (tree_of over) machine start count what new
       by None is count sought =
-          subst (λ n. Passes (tree_of over) machine start n what new) (sym sought.0)
-          (sought.1.0 ∙ sym (ap found_of (answer-first None is)),
-          sought.1.1 ∙ sym (ap₂ (λ a f. with_child a f) (answer-first None is) (after-first None is)))
-      by (Some words) is zero sought =
-          (sought.1.0.found_is ∙ sym (ap found_of (answer-first (Some words) is)),
-          taken-first words (items words) sought.0 sought.1.0.found_is sought.1.0.leaves sought.1.1
-          ∙ sym (ap₂ (λ a f. with_child a f) (answer-first (Some words) is) (after-first (Some words) is)))
+          subst (λ n. Passes (tree_of over) machine start n what new) (sym sought.0) (
+            sought.1.0 ∙ sym (ap found_of (answer-first None is)),
+            sought.1.1 ∙ sym (ap₂ (λ a f. with_child a f) (answer-first None is) (after-first None is)),
+          )
+      by (Some words) is zero sought = (
+        sought.1.0.found_is ∙ sym (ap found_of (answer-first (Some words) is)),
+        taken-first words (items words) sought.0 sought.1.0.found_is sought.1.0.leaves sought.1.1
+            ∙ sym (ap₂ (λ a f. with_child a f) (answer-first (Some words) is) (after-first (Some words) is)),
+      )
       by (Some words) is (suc count) sought =
           let next : Frame = record start { context = record { words = words }; place = 1 } in
           let skip : answer (items words) ≡ Skip = sought.1.0.passed_over 0 (omega arith) (omega arith) in
@@ -265,10 +269,11 @@ module _ (over : PlanOverParts) (machine : ℕ) (part : MachinePart) (stage : St
             passed_over = λ i low below. sought.1.0.passed_over i (omega arith) (omega arith);
             found_is = sought.1.0.found_is ∙ ap (λ p. found_of (answer (drop p (items words)))) more;
             leaves = sought.1.0.leaves ∙ ap (λ p. with_child (answer (drop p (items words))) (record next { place = after_answer (answer (drop p (items words))) p (p + 1) })) more;
-          } in
-          (answer-first (Some words) is ∙ skip,
-          subst (λ f. Passes (tree_of over) machine f count what new) (sym one)
-          (subst (λ n. Passes (tree_of over) machine next count what n) (sym sought.1.1) (passes-later count next what sought.0 there (omega arith) later)))
+          } in (
+            answer-first (Some words) is ∙ skip,
+            subst (λ f. Passes (tree_of over) machine f count what new) (sym one)
+                (subst (λ n. Passes (tree_of over) machine next count what n) (sym sought.1.1) (passes-later count next what sought.0 there (omega arith) later)),
+          )
 
   pub passes-first : (old : Frame) (passed : ℕ) (what : Found) (new : Frame) → slice_get over.plan.stages old.stage ≡ Some stage → old.place ≡ 0
       → IsFirstSought over.texts over.query part stage old passed what new (arrived over.texts over.query part stage old.context.words) → Passes (tree_of over) machine old passed what new

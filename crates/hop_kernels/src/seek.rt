@@ -105,7 +105,7 @@ fn first_leading(
     ensures found { result < to → leads ground.now.texts.now ground.now.query.now gains.now aim.edge aim.end context.now.words (entry_in aim.out ground.now.part.now aim.place result) ≡ true }
 {
     let mut at = from;
-    'entries: while at < to {
+    'looks: while at < to {
         if leads(ground, gains, aim, at as u32, entries[at], context) {
             return at;
         }
@@ -237,10 +237,7 @@ fn seek_along(ground: &Ground<'_>, stage: &Stage, path: Path, frame: &mut Frame)
     requires along { GoesAlong ground.now.texts.now ground.now.query.now ground.now.part.now stage.now path.out path.edge path.to path.end frame.old.context.words }
     ensures { IsSought (answers.items_of ground.now.texts.now ground.now.query.now ground.now.part.now stage.now frame.old.context.words) frame.old result.0 result.1 frame.new }
 {
-    let Some(place) = place_in(
-        ground.part,
-        frame.context.words[1 + stage.current as usize],
-    ) else {
+    let Some(place) = place_in(ground.part, frame.context.words[1 + stage.current as usize]) else {
         return (0, Found::End);
     };
     let entries = ground.part.links(place, path.out);

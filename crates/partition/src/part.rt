@@ -88,6 +88,24 @@ impl Part {
         )
     }
 
+    /// The key of the vertex at a place.
+    pub fn vertex_key(&self, place: u32) -> i64
+        requires { place < length self.now.vertices }
+        ensures { option_map (λ v. v.key) (slice_get self.now.vertices place) ≡ Some result }
+    {
+        let number = self.own.numbers[place as usize];
+        self.shared.vertices.key(number)
+    }
+
+    /// The number of the label of the vertex at a place.
+    pub fn vertex_label(&self, place: u32) -> u32
+        requires { place < length self.now.vertices }
+        ensures { option_map (λ v. v.label) (slice_get self.now.vertices place) ≡ Some result }
+    {
+        let number = self.own.numbers[place as usize];
+        self.shared.vertices.label(number)
+    }
+
     /// The place of a vertex of the graph; `None` exactly where the part lacks it.
     pub fn place_of(&self, vertex: u32) -> Option<u32>
         requires { vertex < length self.now.owners }
