@@ -27,7 +27,7 @@ high p q Less c is lt = cc lt
 high p q Equal c is lt = let r : p ≡ q = ranked p q Equal is in omega arith
 high p q Greater c is lt = let r : q < p = ranked p q Greater is in omega arith
 
-Rising : List Entry → Type 0
+abbrev Rising : List Entry → Type 0
 Rising [] = Unit {0}
 Rising (e ∷ es) = AllByRecursion (λ (f : Entry). e.other ≤ f.other) es × Rising es
 
@@ -43,7 +43,6 @@ All-higher n m [] le all = tt
 All-higher n m (f ∷ es) le all = (omega (arith, le, all.0), All-higher n m es le all.1)
 
 rising-placed : (e : Entry) (es : List Entry) → Rising es → Rising (placed (before_by entry_order) e es)
-unfolding Rising
 rising-placed e [] up = (tt, tt)
 rising-placed e (f ∷ es) up = by (before_by entry_order f e) refl (rising-placed e es up.1) where
   by : (b : Bool) → before_by entry_order f e ≡ b → Rising (placed (before_by entry_order) e es) → Rising (cond b (f ∷ placed (before_by entry_order) e es) (e ∷ f ∷ es))
@@ -53,7 +52,6 @@ rising-placed e (f ∷ es) up = by (before_by entry_order f e) refl (rising-plac
       ((here, All-higher e.other f.other es here up.0), up)
 
 rising-in_order : (es : List Entry) → Rising (in_order (before_by entry_order) es)
-unfolding Rising
 rising-in_order [] = tt
 rising-in_order (e ∷ es) = rising-placed e (in_order (before_by entry_order) es) (rising-in_order es)
 
@@ -63,7 +61,6 @@ All-at n (f ∷ es) zero d all below = all.0
 All-at n (f ∷ es) (suc j) d all below = All-at n es j d all.1 (omega arith)
 
 rising-is : (es : List Entry) → Rising es → IsNonDecreasingBy (λ (e : Entry). e.other) es
-unfolding Rising
 rising-is [] up i j d le below = absurd (omega arith)
 rising-is (e ∷ es) up zero zero d le below = omega arith
 rising-is (e ∷ es) up zero (suc j) d le below = All-at e.other es j d up.0 (omega arith)

@@ -1,6 +1,8 @@
 -- What is taken of a frame in one go is what `next` would give, place by place.
 use Rattle.std.proofs.Common.{◌≡◌, ℕ, zero, suc, ◌+◌, ◌-◌, ◌<◌, ◌≤◌, Bool, true, false, cond, ◌==◌, ◌&&◌, List, [], ◌∷◌, length, get_or, drop, map, Option, Some, None, refl, sym, ap, ap₂, subst, ◌∙◌, arith}
-use Rattle.std.specs.Prelude.{slice_get, slice_index}
+use Rattle.std.specs.Prelude.{◌⊎◌, slice_get, slice_index}
+use Rattle.std.proofs.Common.{inl, inr}
+use Rattle.std.proofs.lemmas.Bool.{cases_lt, ne_eqb}
 use Rattle.std.specs.Option.{option_and_then, option_map}
 use Rattle.match_context.specs.Passes.{Passes, found_of, with_child}
 use Rattle.match_context.specs.Tree.{Below, Item, Leaf, Pass, after, answer}
@@ -26,7 +28,7 @@ use Rattle.hop_kernels.specs.Fitting.{GainsFit, HasRoom, IsThere}
 use Rattle.hop_kernels.specs.Looks.{one_answer}
 use Rattle.hop_kernels.specs.Seeks.{GoesAlong, IsFirstSought, IsSought, answer_by, child_words, ends_at, kept_context, leads}
 use Rattle.hop_kernels.specs.Spots.{entry_in}
-use Rattle.hop_kernels.proofs.EntryLists.{answer_at, bound-ahead, bound-at, if_any-answer, neighbour-ahead}
+use Rattle.hop_kernels.proofs.EntryLists.{answer_at, bound-ahead, bound-at, entry-is, if_any-answer, neighbour-ahead}
 use Rattle.hop_kernels.proofs.SeenWords.{along-is}
 
 -- ---- entries
@@ -70,6 +72,34 @@ link-past out part place i links is past = at_list (slice_get (lists_of out part
   at_list (Some es) e =
       let same : map link_of_entry es ≡ links = cc e in
       at_entries es i (subst (λ (ls : List Link). length ls ≤ i) (sym same) past)
+
+-- no child comes of an entry whose other end isn't the bound one
+pub other-end : (texts : List (List ℕ)) (q : Query) (gains : Gains) (edge end : ℕ) (words : List ℕ) (out : Bool) (part : MachinePart) (place i : ℕ) (links : List Link) (d : Link)
+    → option_map (map link_of_entry) (slice_get (lists_of out part) place) ≡ Some links → i < length links → ((get_or links i d).other ≡ end → ⊥)
+    → leads texts q gains edge (Some end) words (entry_in out part place i) ≡ false
+other-end texts q gains edge end words out part place i links d is below differs =
+    leads-of texts q gains edge (Some end) words (entry_in out part place i) (get_or links i d) false _ _ (entry-is (entry_at out part place i) (get_or links i d) (link-at out part place i links d is below))
+    (ne_eqb (get_or links i d).other end differs) refl refl
+
+-- what is found by halves: nothing before the first entry of the bound end, nor after the last of them
+pub by_halves : (texts : List (List ℕ)) (q : Query) (gains : Gains) (edge end : ℕ) (aim : Option ℕ) (words : List ℕ) (out : Bool) (part : MachinePart) (place : ℕ) (links : List Link) (d : Link)
+    (from first last at : ℕ) → aim ≡ Some end → option_map (map link_of_entry) (slice_get (lists_of out part) place) ≡ Some links
+    → first ≤ length links → ((i : ℕ) (e : Link) → from ≤ i → i < first → (get_or links i e).other < end)
+    → ((i : ℕ) (e : Link) → last ≤ i → i < length links → end < (get_or links i e).other)
+    → ((i : ℕ) → first ≤ i → i < at → leads texts q gains edge aim words (entry_in out part place i) ≡ false)
+    → (i : ℕ) → from ≤ i → (i < at) ⊎ ((last ≤ i) × (i < length links)) → leads texts q gains edge aim words (entry_in out part place i) ≡ false
+by_halves texts q gains edge end aim words out part place links d from first last at is_end is within before behind passed i after (inr past) =
+    let above : end < (get_or links i d).other = behind i d past.0 past.1 in
+    ap (λ o. leads texts q gains edge o words (entry_in out part place i)) is_end
+    ∙ other-end texts q gains edge end words out part place i links d is past.1 (λ e. omega (arith, above, e))
+by_halves texts q gains edge end aim words out part place links d from first last at is_end is within before behind passed i after (inl below) =
+    elim (cases_lt i first) [
+      | inl less ↦
+          let low : (get_or links i d).other < end = before i d after less in
+          ap (λ o. leads texts q gains edge o words (entry_in out part place i)) is_end
+          ∙ other-end texts q gains edge end words out part place i links d is (omega (arith, less, within)) (λ e. omega (arith, low, e))
+      | inr more ↦ passed i more below
+    ]
 
 -- ---- hops
 
@@ -135,7 +165,7 @@ sought-at items old at passed a what new from count skips ahead is leaves =
 -- ---- places of a tree
 
 module _ (over : PlanOverParts) (machine : ℕ) (part : MachinePart) (stage : Stage) (part_there : slice_get over.parts machine ≡ Some part) where
-  items : List ℕ → List Item
+  abbrev items : List ℕ → List Item
   items words = items_of over.texts over.query part stage words
 
   abbrev in_tree : {X : Type 0} → (MachinePart → Stage → X) → X → ℕ → X
@@ -208,13 +238,13 @@ module _ (over : PlanOverParts) (machine : ℕ) (part : MachinePart) (stage : St
   -- ---- at the first place
 
   module _ (frame : Frame) (there : slice_get over.plan.stages frame.stage ≡ Some stage) (passed : ℕ) (what : Found) (new : Frame) where
-    start : Frame
+    abbrev start : Frame
     start = record frame { place = 0 }
 
-    before : List ℕ
+    abbrev before : List ℕ
     before = frame.context.words
 
-    reached : Option (List ℕ) → Frame
+    abbrev reached : Option (List ℕ) → Frame
     reached o = record start {
       context = record { words = if_any (items_after items o) before (words_or before o) };
       place = if_any (items_after items o) 0 1;
@@ -222,11 +252,9 @@ module _ (over : PlanOverParts) (machine : ℕ) (part : MachinePart) (stage : St
 
     answer-first : (o : Option (List ℕ)) → arrived over.texts over.query part stage before ≡ o
         → answer ((tree_of over).ahead machine start.stage start.context start.place) ≡ answer (items_after items o)
-    unfolding start before items
     answer-first o is = answer-tree start there ∙ ap (λ o. answer (items_after items o)) is
 
     after-first : (o : Option (List ℕ)) → arrived over.texts over.query part stage before ≡ o → after (tree_of over) machine start ≡ reached o
-    unfolding start before items reached
     after-first o is = after-tree start there ∙ ap reached is
 
     -- where nothing was passed over
@@ -234,7 +262,6 @@ module _ (over : PlanOverParts) (machine : ℕ) (part : MachinePart) (stage : St
         → left ≡ with_child (answer is) (record start { context = record { words = words }; place = after_answer (answer is) 0 1 })
         → new ≡ kept_context start 0 what left
         → new ≡ with_child (answer is) (record start { context = record { words = if_any is before words }; place = if_any is 0 1 })
-    unfolding start before
     taken-first words [] left found leaves kept = kept ∙ ap (λ w. kept_context start 0 w left) found ∙ ap (λ f. record f { context = frame.context }) leaves
     taken-first words (Below context to ∷ is) left found leaves kept = kept ∙ ap (λ w. kept_context start 0 w left) found ∙ leaves
     taken-first words (Leaf context ∷ is) left found leaves kept = kept ∙ ap (λ w. kept_context start 0 w left) found ∙ leaves

@@ -1,14 +1,13 @@
 //! Places that are taken in one go, up to the first of which something comes.
-ghost use Rattle.std.specs.Prelude.{◌≡◌, ◌<◌, ◌≤◌, ◌+◌, ◌==◌, ◌^◌, ℕ, false, true, Some, None, IsSome, length, map, slice_get, slice_index, slice_index_or};
+ghost use Rattle.std.specs.Prelude.{◌≡◌, ◌<◌, ◌≤◌, ◌+◌, ◌==◌, ◌^◌, ℕ, false, true, Some, None, [], ◌∷◌, length, map, slice_get, slice_index, slice_index_or};
 ghost use Rattle.std.specs.List.Sorted.{IsNonDecreasingBy};
 ghost use Rattle.std.specs.Option.{option_map};
-ghost use Rattle.match_context.specs.Passes.{found_of, with_child};
+ghost use Rattle.match_context.specs.Tree.{Leaf};
 ghost use Rattle.partition.specs.Parts.{entry_at, link_of_entry, lists_of};
 ghost use Rattle.partition.specs.declared.link.Link.{Link};
 ghost use Rattle.stage_plan.specs.declared.hop.Hop.TheVariants as hop;
 ghost use Rattle.plan_tree.specs.Answers as answers;
 ghost use Rattle.plan_tree.specs.Told as told;
-ghost use Rattle.hop_kernels.specs.Entries.{IsLow, after_answer};
 ghost use Rattle.hop_kernels.specs.Fitting.{GainsFit, HasRoom, IsThere, StageFits};
 ghost use Rattle.hop_kernels.specs.Looks.{with_end};
 ghost use Rattle.hop_kernels.specs.Seeks.{GoesAlong, IsFirstSought, IsSought, child_words, ends_at, leads};
@@ -16,12 +15,12 @@ ghost use Rattle.hop_kernels.specs.Spots.{AreNumbered, AreRising, entry_in};
 
 use crate::arrival::arrive;
 use crate::ground::Ground;
-use crate::hops::{Step, Way, bind, hop_answer, others_told};
+use crate::hops::{Step, Way, bind, others_told};
 use crate::look::{Look, all_hold};
 use crate::spot::{Spot, place_in};
 use crate::words::write;
 use adfs_base::CONTEXT_WORDS;
-use match_context::{Context, Found, Frame, Next};
+use match_context::{Context, Found, Frame};
 use partition::Link;
 use stage_plan::{Gains, Hop, Stage};
 
@@ -119,7 +118,6 @@ fn lower(entries: &[Link], end: u32) -> usize
     requires { IsNonDecreasingBy (λ link. link.other) entries.now }
     ensures within { result ≤ length entries.now }
     ensures below { (i : ℕ) (d : Link) → i < result → (slice_index_or entries.now i d).other < end }
-    ensures others { (i : ℕ) (d : Link) → result ≤ i → i < length entries.now → end ≤ (slice_index_or entries.now i d).other }
 {
     entries.partition_point(|entry| entry.other < end)
 }
@@ -131,6 +129,30 @@ fn upper(entries: &[Link], end: u32) -> usize
     ensures above { (i : ℕ) (d : Link) → result ≤ i → i < length entries.now → end < (slice_index_or entries.now i d).other }
 {
     entries.partition_point(|entry| entry.other <= end)
+}
+
+// The entries from one on with this other end: the first of them, and the one after the last.
+fn ends(entries: &[Link], from: usize, end: u32) -> (usize, usize)
+    requires rising { IsNonDecreasingBy (λ link. link.other) entries.now }
+    requires within { from ≤ length entries.now }
+    ensures start { from ≤ result.0 }
+    ensures order { result.0 ≤ result.1 }
+    ensures within { result.1 ≤ length entries.now }
+    ensures before { (i : ℕ) (d : Link) → from ≤ i → i < result.0 → (slice_index_or entries.now i d).other < end }
+    ensures behind { (i : ℕ) (d : Link) → result.1 ≤ i → i < length entries.now → end < (slice_index_or entries.now i d).other }
+{
+    let low = lower(entries, end);
+    let high = upper(entries, end);
+    if low < from {
+        if high < from {
+            return (from, from);
+        }
+        return (from, high);
+    }
+    if high < low {
+        return (low, low);
+    }
+    (low, high)
 }
 
 // The same as `find`, where the entries with the bound end are found by halves.
@@ -156,10 +178,7 @@ fn find_end(
     ensures passed { (i : ℕ) → from ≤ i → i < result → leads ground.now.texts.now ground.now.query.now gains.now aim.edge aim.end context.now.words (entry_in aim.out ground.now.part.now aim.place i) ≡ false }
     ensures found { result < length entries.now → leads ground.now.texts.now ground.now.query.now gains.now aim.edge aim.end context.now.words (entry_in aim.out ground.now.part.now aim.place result) ≡ true }
 {
-    let lower = lower(entries, end);
-    let first = if lower < from { from } else { lower };
-    let upper = upper(entries, end);
-    let last = if upper < first { first } else { upper };
+    let (first, last) = ends(entries, from, end);
     let at = first_leading(ground, gains, aim, entries, context, first, last);
     if at < last { at } else { entries.len() }
 }
@@ -320,28 +339,36 @@ fn seek_bound(ground: &Ground<'_>, stage: &Stage, way: Way, frame: &mut Frame) -
     seek_along(ground, stage, path, frame)
 }
 
-// One answer, with its child in the frame.
-fn take(next: Next, frame: &mut Frame) -> Found
-    requires { IsLow next frame.old.place }
-    ensures found { result ≡ found_of next }
-    ensures left { frame.new ≡ with_child next (record frame.old { place = after_answer next frame.old.place (frame.old.place + 1) }) }
+// Back to a vertex that is bound.
+fn seek_inspected(
+    ground: &Ground<'_>,
+    stage: &Stage,
+    variable: u32,
+    frame: &mut Frame,
+) -> (u64, Found)
+    requires room { HasRoom ground.now.query.now }
+    requires fits { StageFits ground.now.query.now stage.now }
+    requires hop { stage.now.hop ≡ hop.Inspect variable }
+    ensures { IsSought (answers.items_of ground.now.texts.now ground.now.query.now ground.now.part.now stage.now frame.old.context.words) frame.old result.0 result.1 frame.new }
 {
-    match next {
-        Next::Child(context, to) => {
-            frame.wait = Some((context, to));
-            frame.place += 1;
-            Found::Child
-        }
-        Next::Row(_) => {
-            frame.place += 1;
-            Found::Row
-        }
-        Next::Skip => {
-            frame.place += 1;
-            Found::Skip
-        }
-        Next::End => Found::End,
+    let vertex = frame.context.words[1 + variable as usize];
+    if frame.place != 0 || vertex >= u64::from(ground.part.graph_vertices()) {
+        return (0, Found::End);
     }
+    frame.wait = Some((frame.context, ground.part.machine_of(vertex as u32)));
+    frame.place = 1;
+    (0, Found::Child)
+}
+
+// The row of a context that has arrived at the last stage, told without it.
+fn seek_row(frame: &mut Frame) -> (u64, Found)
+    ensures { IsSought (Leaf frame.old.context ∷ []) frame.old result.0 result.1 frame.new }
+{
+    if frame.place != 0 {
+        return (0, Found::End);
+    }
+    frame.place = 1;
+    (0, Found::Row)
 }
 
 // From a place on of a context that has arrived.
@@ -357,10 +384,9 @@ fn seek_on(ground: &Ground<'_>, stage: &Stage, frame: &mut Frame) -> (u64, Found
             seek_neighbour(ground, stage, Way { out, edge, to }, frame)
         }
         Hop::Edge { out, edge, to } => seek_bound(ground, stage, Way { out, edge, to }, frame),
-        _ => {
-            let next = hop_answer(ground, stage, &frame.context, frame.place);
-            (0, take(next, frame))
-        }
+        Hop::Inspect(variable) => seek_inspected(ground, stage, variable, frame),
+        Hop::Output => seek_row(frame),
+        Hop::Root(_) => (0, Found::End),
     }
 }
 
