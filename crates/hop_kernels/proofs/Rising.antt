@@ -1,7 +1,7 @@
 -- The lists of a graph's parts stand in the order of their other ends.
-use Rattle.std.proofs.Common.{◌≡◌, ℕ, zero, suc, ◌<◌, ◌≤◌, Bool, true, false, cond, List, [], ◌∷◌, length, get_or, map, Option, Some, None, refl, sym, ap, subst, ◌∙◌, arith}
+use Rattle.std.proofs.Common.{◌≡◌, ℕ, zero, suc, ◌<◌, ◌≤◌, Bool, true, false, cond, ◌==◌, List, [], ◌∷◌, length, get_or, map, Option, Some, None, refl, sym, ap, subst, ◌∙◌, arith}
 use Rattle.std.specs.Prelude.{slice_get}
-use Rattle.std.specs.List.{AllByRecursion, range_with_len}
+use Rattle.std.specs.List.{AllByRecursion, filter, range_with_len}
 use Rattle.std.specs.List.Sorted.{IsNonDecreasingBy}
 use Rattle.std.specs.Option.{option_map}
 use Rattle.std.specs.Ordering.{is_lt, nat_cmp, ordering_then}
@@ -11,7 +11,7 @@ use Rattle.std.proofs.lemmas.Cmp.{ranked}
 use Rattle.std.proofs.lemmas.List.{get_or-map, length-map}
 use Rattle.graph_tables.specs.Graph.{PropertyGraph, Vertex}
 use Rattle.sorted_lists.specs.Sorted.{before_by, in_order, placed}
-use Rattle.partition.specs.Parts.{Entry, MachinePart, entries_of, entry_order, link_of_entry, lists_of, owners_in, part_of, vertices_of}
+use Rattle.partition.specs.Parts.{Entry, MachinePart, entries_of, entry_of, entry_order, link_of_entry, lists_of, near_end, numbered, owners_in, part_of, vertices_of}
 use Rattle.partition.specs.declared.link.Link.{Link}
 use Rattle.partition.specs.declared.owner.Owner.{Owner}
 use Rattle.hop_kernels.specs.Over.{AreParts}
@@ -72,7 +72,10 @@ rising-is (e ∷ es) up (suc i) (suc j) d le below = rising-is es up.1 i j d (om
 lists-rising : (owners : List ℕ) (out : Bool) (g : PropertyGraph) (vs : List (ℕ × Vertex))
     → AllByRecursion (IsNonDecreasingBy (λ (e : Entry). e.other)) (map (λ v. entries_of owners out g.edges v.0) vs)
 lists-rising owners out g [] = tt
-lists-rising owners out g (v ∷ vs) = (rising-is (entries_of owners out g.edges v.0) (rising-in_order _), lists-rising owners out g vs)
+lists-rising owners out g (v ∷ vs) = (
+  rising-is (entries_of owners out g.edges v.0) (rising-in_order (map (entry_of owners out) (filter (λ e. near_end out e.1 == v.0) (numbered 0 g.edges)))),
+  lists-rising owners out g vs,
+)
 
 rising-of : (g : PropertyGraph) (o : Owner) (machines : ℕ) (ms : List ℕ) → AllByRecursion AreRising (map (λ m. part_of g o machines m) ms)
 rising-of g o machines [] = tt

@@ -1,11 +1,12 @@
 -- What is taken of a frame in one go is what `next` would give, place by place.
 use Rattle.std.proofs.Common.{◌≡◌, ℕ, zero, suc, ◌+◌, ◌-◌, ◌<◌, ◌≤◌, Bool, true, false, cond, ◌==◌, ◌&&◌, List, [], ◌∷◌, length, get_or, drop, map, Option, Some, None, refl, sym, ap, ap₂, subst, ◌∙◌, arith}
-use Rattle.std.specs.Prelude.{◌⊎◌, slice_get, slice_index}
+use Rattle.std.specs.Prelude.{◌⊎◌, slice_get, slice_index, unwrap_or}
 use Rattle.std.proofs.Common.{inl, inr}
 use Rattle.std.proofs.lemmas.Bool.{cases_lt, ne_eqb}
 use Rattle.std.specs.Option.{option_and_then, option_map}
 use Rattle.match_context.specs.Passes.{Passes, found_of, with_child}
 use Rattle.match_context.specs.Tree.{Below, Item, Leaf, Pass, after, answer}
+use Rattle.match_context.specs.declared.context.Context.{Context}
 use Rattle.match_context.specs.declared.expand.Found.{Found}
 use Rattle.match_context.specs.declared.expand.Found.TheVariants as found
 use Rattle.match_context.specs.declared.expand.Next.{Next}
@@ -20,15 +21,15 @@ use Rattle.stage_plan.specs.Walk.{captures_of, edge_of}
 use Rattle.stage_plan.specs.declared.hop.Hop.TheVariants as hop
 use Rattle.stage_plan.specs.declared.stage.Gains.{Gains}
 use Rattle.stage_plan.specs.declared.stage.Stage.{Stage}
-use Rattle.plan_tree.specs.Answers.{ahead, all_hold, arrived, edge_in, entries_in, if_any, is_vertex, items_after, items_of, labels_of, others, place_after, to_bound, to_neighbour, words_after, words_or}
+use Rattle.plan_tree.specs.Answers.{ahead, all_hold, arrived, edge_in, entries_in, if_any, is_vertex, items_after, items_of, labels_of, others, place_after, place_in, to_bound, to_neighbour, words_after, words_or}
 use Rattle.plan_tree.specs.PlanTree.{PlanOverParts, taken, tree_of}
 use Rattle.plan_tree.specs.Told.{all_told, written}
 use Rattle.hop_kernels.specs.Entries.{after_answer, answer_along}
 use Rattle.hop_kernels.specs.Fitting.{GainsFit, HasRoom, IsThere}
 use Rattle.hop_kernels.specs.Looks.{one_answer}
 use Rattle.hop_kernels.specs.Seeks.{GoesAlong, IsFirstSought, IsSought, answer_by, child_words, ends_at, kept_context, leads}
-use Rattle.hop_kernels.specs.Spots.{entry_in}
-use Rattle.hop_kernels.proofs.EntryLists.{answer_at, bound-ahead, bound-at, entry-is, if_any-answer, neighbour-ahead}
+use Rattle.hop_kernels.specs.Spots.{entry_in, no_entry}
+use Rattle.hop_kernels.proofs.EntryLists.{answer_at, bound-ahead, bound-at, entries-found, entry-is, if_any-answer, neighbour-ahead}
 use Rattle.hop_kernels.proofs.SeenWords.{along-is}
 
 -- ---- entries
@@ -101,6 +102,79 @@ by_halves texts q gains edge end aim words out part place links d from first las
       | inr more ↦ passed i more below
     ]
 
+-- ---- what was sought
+
+-- nothing is ahead
+pub sought-end : (items : List Item) (old : Frame) → answer (drop old.place items) ≡ End → IsSought items old 0 found.End old
+sought-end items old is =
+    let here : old.place + 0 ≡ old.place = omega arith in
+    let none : answer (drop (old.place + 0) items) ≡ End = ap (λ p. answer (drop p items)) here ∙ is in
+    record {
+      passed_over = λ i from below. absurd (omega arith);
+      found_is = sym (ap found_of none);
+      leaves = sym (ap (λ a. with_child a (record old { place = after_answer a (old.place + 0) (old.place + 0 + 1) })) none ∙ ap (λ p. record old { place = p }) here);
+    }
+
+-- what is ahead at the first place that isn't passed over
+pub sought-at : (items : List Item) (old : Frame) (at passed : ℕ) (a : Next) (what : Found) (new : Frame) → old.place ≤ at → passed ≡ at - old.place
+    → ((i : ℕ) → old.place ≤ i → i < at → answer (drop i items) ≡ Skip) → answer (drop at items) ≡ a → what ≡ found_of a
+    → new ≡ with_child a (record old { place = after_answer a at (at + 1) }) → IsSought items old passed what new
+sought-at items old at passed a what new from count skips ahead is leaves =
+    let here : old.place + passed ≡ at = omega arith in
+    let next : answer (drop (old.place + passed) items) ≡ a = ap (λ p. answer (drop p items)) here ∙ ahead in
+    record {
+      passed_over = λ i low below. skips i low (omega arith);
+      found_is = is ∙ sym (ap found_of next);
+      leaves = leaves ∙ sym (ap₂ (λ b p. with_child b (record old { place = after_answer b p (p + 1) })) next here);
+    }
+
+-- ---- along a list
+
+-- an entry that is there
+entry-there : (o : Option Entry) (link : Link) → option_map link_of_entry o ≡ Some link → o ≡ Some (unwrap_or o no_entry)
+entry-there None link e = cc e
+entry-there (Some e) link is = refl
+
+-- along a list: what comes of an entry, and of the place past the last
+module _ (texts : List (List ℕ)) (q : Query) (part : MachinePart) (stage : Stage) (out : Bool) (edge : ℕ) (to end : Option ℕ) (words : List ℕ) (place : ℕ) (links : List Link)
+    (along : GoesAlong texts q part stage out edge to end words) (found : place_in part (slice_index words (1 + stage.current)) ≡ Some place)
+    (are : option_map (map link_of_entry) (slice_get (lists_of out part) place) ≡ Some links) where
+  at_place : (i : ℕ) (o : Option Entry) → entry_at out part place i ≡ o → answer (drop i (items_of texts q part stage words)) ≡ answer_by texts q stage.passage edge to end words o
+  at_place i o is =
+      along i ∙ ap (answer_by texts q stage.passage edge to end words) (entries-found out part (slice_index words (1 + stage.current)) place i found ∙ is)
+
+  at_entry : (i : ℕ) (d : Link) (b : Bool) → i < length links → leads texts q stage.passage edge end words (entry_in out part place i) ≡ b
+      → answer (drop i (items_of texts q part stage words))
+      ≡ cond b (Child (record { words = child_words q stage.passage edge to words (entry_in out part place i) }) (entry_in out part place i).machine) Skip
+  at_entry i d b below is =
+      at_place i (Some (entry_in out part place i)) (entry-there (entry_at out part place i) (get_or links i d) (link-at out part place i links d are below))
+      ∙ ap (λ c. cond c (Child (record { words = child_words q stage.passage edge to words (entry_in out part place i) }) (entry_in out part place i).machine) Skip) is
+
+  pub along-end : (at : ℕ) → length links ≤ at → answer (drop at (items_of texts q part stage words)) ≡ End
+  along-end at past = at_place at None (link-past out part place at links are past)
+
+  -- the list's end is reached
+  pub sought-past : (old : Frame) (at : ℕ) (d : Link) → old.place ≤ at → at ≡ length links
+      → ((i : ℕ) → old.place ≤ i → i < at → leads texts q stage.passage edge end words (entry_in out part place i) ≡ false)
+      → IsSought (items_of texts q part stage words) old (at - old.place) found.End (record old { place = at })
+  sought-past old at d from last passed =
+      sought-at (items_of texts q part stage words) old at (at - old.place) End found.End (record old { place = at }) from refl
+      (λ i low below. at_entry i d false (omega (arith, below, last)) (passed i low below)) (along-end at (omega (arith, last))) refl refl
+
+  -- a child comes of an entry
+  pub sought-child : (old new : Frame) (at : ℕ) (d : Link) → old.place ≤ at → at < length links
+      → ((i : ℕ) → old.place ≤ i → i < at → leads texts q stage.passage edge end words (entry_in out part place i) ≡ false)
+      → leads texts q stage.passage edge end words (entry_in out part place at) ≡ true
+      → new ≡ record old { place = at; wait = Some (record { words = child_words q stage.passage edge to words (entry_in out part place at) }, (get_or links at d).machine) }
+      → IsSought (items_of texts q part stage words) old (at - old.place) found.Child (record new { place = new.place + 1 })
+  sought-child old new at d from below passed leading is =
+      let child : Context = record { words = child_words q stage.passage edge to words (entry_in out part place at) } in
+      let machine : (get_or links at d).machine ≡ (entry_in out part place at).machine =
+      ap (λ (l : Link). l.machine) (sym (entry-is (entry_at out part place at) (get_or links at d) (link-at out part place at links d are below))) in
+      sought-at (items_of texts q part stage words) old at (at - old.place) (Child child (entry_in out part place at).machine) found.Child (record new { place = new.place + 1 }) from refl
+      (λ i low less. at_entry i d false (omega (arith, less, below)) (passed i low less)) (at_entry at d true below leading) refl
+      (ap {A = Frame} (λ (f : Frame). record f { place = f.place + 1 }) is ∙ ap (λ m. record old { place = at + 1; wait = Some (child, m) }) machine)
+
 -- ---- hops
 
 module _ (texts : List (List ℕ)) (q : Query) (part : MachinePart) (stage : Stage) (words : List ℕ) (out : Bool) (edge to : ℕ) (room : HasRoom q) (size : length words ≡ 40)
@@ -136,32 +210,6 @@ module _ (texts : List (List ℕ)) (q : Query) (part : MachinePart) (stage : Sta
       at_entry None = refl
       at_entry (Some e) = bound-at texts q stage.passage edge to words e (e.other == slice_index words (1 + to)) refl ∙ by_end e (e.other == slice_index words (1 + to))
 
--- ---- what was sought
-
--- nothing is ahead
-pub sought-end : (items : List Item) (old : Frame) → answer (drop old.place items) ≡ End → IsSought items old 0 found.End old
-sought-end items old is =
-    let here : old.place + 0 ≡ old.place = omega arith in
-    let none : answer (drop (old.place + 0) items) ≡ End = ap (λ p. answer (drop p items)) here ∙ is in
-    record {
-      passed_over = λ i from below. absurd (omega arith);
-      found_is = sym (ap found_of none);
-      leaves = sym (ap (λ a. with_child a (record old { place = after_answer a (old.place + 0) (old.place + 0 + 1) })) none ∙ ap (λ p. record old { place = p }) here);
-    }
-
--- what is ahead at the first place that isn't passed over
-pub sought-at : (items : List Item) (old : Frame) (at passed : ℕ) (a : Next) (what : Found) (new : Frame) → old.place ≤ at → passed ≡ at - old.place
-    → ((i : ℕ) → old.place ≤ i → i < at → answer (drop i items) ≡ Skip) → answer (drop at items) ≡ a → what ≡ found_of a
-    → new ≡ with_child a (record old { place = after_answer a at (at + 1) }) → IsSought items old passed what new
-sought-at items old at passed a what new from count skips ahead is leaves =
-    let here : old.place + passed ≡ at = omega arith in
-    let next : answer (drop (old.place + passed) items) ≡ a = ap (λ p. answer (drop p items)) here ∙ ahead in
-    record {
-      passed_over = λ i low below. skips i low (omega arith);
-      found_is = is ∙ sym (ap found_of next);
-      leaves = leaves ∙ sym (ap₂ (λ b p. with_child b (record old { place = after_answer b p (p + 1) })) next here);
-    }
-
 -- ---- places of a tree
 
 module _ (over : PlanOverParts) (machine : ℕ) (part : MachinePart) (stage : Stage) (part_there : slice_get over.parts machine ≡ Some part) where
@@ -190,16 +238,22 @@ module _ (over : PlanOverParts) (machine : ℕ) (part : MachinePart) (stage : St
       (in_tree-is (λ here s. place_after over.texts over.query here s old.context.words old.place) old.place old.stage there)
 
   -- at a later place
+  not_first : (place : ℕ) → 0 < place → (place == 0) ≡ false
+  not_first place some = ne_eqb place 0 (λ e. omega (arith, some, e))
+
   ahead-later : (words : List ℕ) (place : ℕ) → 0 < place → ahead over.texts over.query part stage words place ≡ drop place (items words)
-  ahead-later words zero some = absurd (omega arith)
-  ahead-later words (suc place) some = refl
+  ahead-later words place some =
+      ap (λ b. cond b (items_after (items_of over.texts over.query part stage) (arrived over.texts over.query part stage words)) (drop place (items words))) (not_first place some)
+
+  same_either_way : (is : List Item) (words : List ℕ) → if_any is words words ≡ words
+  same_either_way [] words = refl
+  same_either_way (i ∷ is) words = refl
 
   words-later : (words : List ℕ) (place : ℕ) → 0 < place → words_after over.texts over.query part stage words place ≡ words
-  words-later words zero some = absurd (omega arith)
-  words-later words (suc place) some = both (drop (suc place) (items words)) where
-    both : (is : List Item) → if_any is words words ≡ words
-    both [] = refl
-    both (i ∷ is) = refl
+  words-later words place some =
+      ap₂ (λ is later. if_any is words later) (ahead-later words place some)
+      (ap (λ b. cond b (words_or words (arrived over.texts over.query part stage words)) words) (not_first place some))
+      ∙ same_either_way (drop place (items words)) words
 
   after-later : (old : Frame) → slice_get over.plan.stages old.stage ≡ Some stage → 0 < old.place
       → after (tree_of over) machine old ≡ record old { place = after_answer (answer (drop old.place (items old.context.words))) old.place (old.place + 1) }
@@ -262,7 +316,7 @@ module _ (over : PlanOverParts) (machine : ℕ) (part : MachinePart) (stage : St
         → left ≡ with_child (answer is) (record start { context = record { words = words }; place = after_answer (answer is) 0 1 })
         → new ≡ kept_context start 0 what left
         → new ≡ with_child (answer is) (record start { context = record { words = if_any is before words }; place = if_any is 0 1 })
-    taken-first words [] left found leaves kept = kept ∙ ap (λ w. kept_context start 0 w left) found ∙ ap (λ f. record f { context = frame.context }) leaves
+    taken-first words [] left found leaves kept = kept ∙ ap (λ w. kept_context start 0 w left) found ∙ ap {A = Frame} (λ (f : Frame). record f { context = frame.context }) leaves
     taken-first words (Below context to ∷ is) left found leaves kept = kept ∙ ap (λ w. kept_context start 0 w left) found ∙ leaves
     taken-first words (Leaf context ∷ is) left found leaves kept = kept ∙ ap (λ w. kept_context start 0 w left) found ∙ leaves
     taken-first words (Pass ∷ is) left found leaves kept = kept ∙ ap (λ w. kept_context start 0 w left) found ∙ leaves
@@ -280,26 +334,26 @@ module _ (over : PlanOverParts) (machine : ℕ) (part : MachinePart) (stage : St
       by None is count sought =
           subst (λ n. Passes (tree_of over) machine start n what new) (sym sought.0) (
             sought.1.0 ∙ sym (ap found_of (answer-first None is)),
-            sought.1.1 ∙ sym (ap₂ (λ a f. with_child a f) (answer-first None is) (after-first None is)),
+            sought.2 ∙ sym (ap₂ (λ a f. with_child a f) (answer-first None is) (after-first None is)),
           )
       by (Some words) is zero sought = (
-        sought.1.0.found_is ∙ sym (ap found_of (answer-first (Some words) is)),
-        taken-first words (items words) sought.0 sought.1.0.found_is sought.1.0.leaves sought.1.1
+        sought.1.found_is ∙ sym (ap found_of (answer-first (Some words) is)),
+        taken-first words (items words) sought.0 sought.1.found_is sought.1.leaves sought.2
             ∙ sym (ap₂ (λ a f. with_child a f) (answer-first (Some words) is) (after-first (Some words) is)),
       )
       by (Some words) is (suc count) sought =
           let next : Frame = record start { context = record { words = words }; place = 1 } in
-          let skip : answer (items words) ≡ Skip = sought.1.0.passed_over 0 (omega arith) (omega arith) in
+          let skip : answer (items words) ≡ Skip = sought.1.passed_over 0 (omega arith) (omega arith) in
           let one : after (tree_of over) machine start ≡ next = after-first (Some words) is ∙ skipped-first words (items words) skip in
           let more : 0 + suc count ≡ 1 + count = omega arith in
           let later : IsSought (items words) next count what sought.0 = record {
-            passed_over = λ i low below. sought.1.0.passed_over i (omega arith) (omega arith);
-            found_is = sought.1.0.found_is ∙ ap (λ p. found_of (answer (drop p (items words)))) more;
-            leaves = sought.1.0.leaves ∙ ap (λ p. with_child (answer (drop p (items words))) (record next { place = after_answer (answer (drop p (items words))) p (p + 1) })) more;
+            passed_over = λ i low below. sought.1.passed_over i (omega arith) (omega arith);
+            found_is = sought.1.found_is ∙ ap (λ p. found_of (answer (drop p (items words)))) more;
+            leaves = sought.1.leaves ∙ ap (λ p. with_child (answer (drop p (items words))) (record next { place = after_answer (answer (drop p (items words))) p (p + 1) })) more;
           } in (
             answer-first (Some words) is ∙ skip,
             subst (λ f. Passes (tree_of over) machine f count what new) (sym one)
-                (subst (λ n. Passes (tree_of over) machine next count what n) (sym sought.1.1) (passes-later count next what sought.0 there (omega arith) later)),
+                (subst (λ n. Passes (tree_of over) machine next count what n) (sym sought.2) (passes-later count next what sought.0 there (omega arith) later)),
           )
 
   pub passes-first : (old : Frame) (passed : ℕ) (what : Found) (new : Frame) → slice_get over.plan.stages old.stage ≡ Some stage → old.place ≡ 0

@@ -16,7 +16,7 @@ ghost use Rattle.hop_kernels.specs.Spots.{AreNumbered, AreRising, entry_in};
 use crate::arrival::arrive;
 use crate::ground::Ground;
 use crate::hops::{Step, Way, bind, others_told};
-use crate::look::{Look, all_hold};
+use crate::look::{Look, all_hold, first_word};
 use crate::spot::{Spot, place_in};
 use crate::words::write;
 use adfs_base::CONTEXT_WORDS;
@@ -303,6 +303,7 @@ fn seek_neighbour(ground: &Ground<'_>, stage: &Stage, way: Way, frame: &mut Fram
     requires hop { stage.now.hop ≡ hop.Neighbour way.out way.edge way.to }
     ensures { IsSought (answers.items_of ground.now.texts.now ground.now.query.now ground.now.part.now stage.now frame.old.context.words) frame.old result.0 result.1 frame.new }
 {
+    let _word = first_word(&frame.context);
     if !others_told(ground, &stage.passage, way.edge, &frame.context) {
         return (0, Found::End);
     }
@@ -324,6 +325,7 @@ fn seek_bound(ground: &Ground<'_>, stage: &Stage, way: Way, frame: &mut Frame) -
     requires hop { stage.now.hop ≡ hop.Edge way.out way.edge way.to }
     ensures { IsSought (answers.items_of ground.now.texts.now ground.now.query.now ground.now.part.now stage.now frame.old.context.words) frame.old result.0 result.1 frame.new }
 {
+    let _word = first_word(&frame.context);
     let end = frame.context.words[1 + way.to as usize];
     if end >= u64::from(ground.part.graph_vertices())
         || !others_told(ground, &stage.passage, way.edge, &frame.context)
