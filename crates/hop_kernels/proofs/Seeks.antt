@@ -137,11 +137,11 @@ entry-there (Some e) link is = refl
 
 -- along a list: what comes of an entry, and of the place past the last
 module _ (texts : List (List ℕ)) (q : Query) (part : MachinePart) (stage : Stage) (out : Bool) (edge : ℕ) (to end : Option ℕ) (words : List ℕ) (place : ℕ) (links : List Link)
-    (along : GoesAlong texts q part stage out edge to end words) (found : place_in part (slice_index words (1 + stage.current)) ≡ Some place)
+    (along : GoesAlong texts q part stage out edge to end words) (stands : place_in part (slice_index words (1 + stage.current)) ≡ Some place)
     (are : option_map (map link_of_entry) (slice_get (lists_of out part) place) ≡ Some links) where
   at_place : (i : ℕ) (o : Option Entry) → entry_at out part place i ≡ o → answer (drop i (items_of texts q part stage words)) ≡ answer_by texts q stage.passage edge to end words o
   at_place i o is =
-      along i ∙ ap (answer_by texts q stage.passage edge to end words) (entries-found out part (slice_index words (1 + stage.current)) place i found ∙ is)
+      along i ∙ ap (answer_by texts q stage.passage edge to end words) (entries-found out part (slice_index words (1 + stage.current)) place i stands ∙ is)
 
   at_entry : (i : ℕ) (d : Link) (b : Bool) → i < length links → leads texts q stage.passage edge end words (entry_in out part place i) ≡ b
       → answer (drop i (items_of texts q part stage words))
@@ -333,7 +333,7 @@ module _ (over : PlanOverParts) (machine : ℕ) (part : MachinePart) (stage : St
           → IsFirstSought over.texts over.query part stage start count what new o → Passes (tree_of over) machine start count what new
       by None is count sought =
           subst (λ n. Passes (tree_of over) machine start n what new) (sym sought.0) (
-            sought.1.0 ∙ sym (ap found_of (answer-first None is)),
+            sought.1 ∙ sym (ap found_of (answer-first None is)),
             sought.2 ∙ sym (ap₂ (λ a f. with_child a f) (answer-first None is) (after-first None is)),
           )
       by (Some words) is zero sought = (
