@@ -27,7 +27,7 @@ use Rattle.plan_tree.specs.Told.{all_told, written}
 use Rattle.hop_kernels.specs.Entries.{after_answer, answer_along}
 use Rattle.hop_kernels.specs.Fitting.{GainsFit, HasRoom, IsThere}
 use Rattle.hop_kernels.specs.Looks.{one_answer}
-use Rattle.hop_kernels.specs.Seeks.{GoesAlong, IsFirstSought, IsSought, answer_by, child_words, ends_at, kept_context, leads}
+use Rattle.hop_kernels.specs.Seeks.{GoesAlong, IsFirstSought, IsSought, answer_by, child_words, ends_at, is_end, kept_context, leads}
 use Rattle.hop_kernels.specs.Spots.{entry_in, no_entry}
 use Rattle.hop_kernels.proofs.EntryLists.{answer_at, bound-ahead, bound-at, entries-found, entry-is, if_any-answer, neighbour-ahead}
 use Rattle.hop_kernels.proofs.SeenWords.{along-is}
@@ -346,6 +346,8 @@ module _ (over : PlanOverParts) (machine : ℕ) (part : MachinePart) (stage : St
           let skip : answer (items words) ≡ Skip = sought.1.passed_over 0 (omega arith) (omega arith) in
           let one : after (tree_of over) machine start ≡ next = after-first (Some words) is ∙ skipped-first words (items words) skip in
           let more : 0 + suc count ≡ 1 + count = omega arith in
+          let kept : kept_context start (suc count) what sought.0 ≡ sought.0 =
+          ap {A = Bool} (λ b. cond (b && is_end what) (record sought.0 { context = frame.context }) sought.0) (ne_eqb (suc count) 0 (λ e. omega (arith, e))) in
           let later : IsSought (items words) next count what sought.0 = record {
             passed_over = λ i low below. sought.1.passed_over i (omega arith) (omega arith);
             found_is = sought.1.found_is ∙ ap (λ p. found_of (answer (drop p (items words)))) more;
@@ -353,7 +355,7 @@ module _ (over : PlanOverParts) (machine : ℕ) (part : MachinePart) (stage : St
           } in (
             answer-first (Some words) is ∙ skip,
             subst (λ f. Passes (tree_of over) machine f count what new) (sym one)
-                (subst (λ n. Passes (tree_of over) machine next count what n) (sym sought.2) (passes-later count next what sought.0 there (omega arith) later)),
+                (subst (λ n. Passes (tree_of over) machine next count what n) (sym (sought.2 ∙ kept)) (passes-later count next what sought.0 there (omega arith) later)),
           )
 
   pub passes-first : (old : Frame) (passed : ℕ) (what : Found) (new : Frame) → slice_get over.plan.stages old.stage ≡ Some stage → old.place ≡ 0
