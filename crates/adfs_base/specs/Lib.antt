@@ -4,3 +4,4 @@ pub mod Files
 pub mod MemSink
 pub mod MemStore
 pub mod Shape
+pub mod ShortTexts

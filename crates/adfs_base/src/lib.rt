@@ -18,6 +18,7 @@ mod mem_store;
 mod name;
 mod part_word;
 mod shape;
+mod short_text;
 mod sink;
 mod step_answers;
 mod store;

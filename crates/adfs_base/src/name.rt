@@ -1,6 +1,7 @@
 //! A name as a text of its own, and what is answered where memory runs out.
 ghost use Rattle.std.specs.Prelude.{◌≡◌, IfOk};
 
+use crate::short_text::{ShortText, text_in, text_of};
 use std::alloc::{AllocError, AllocFailed, Global};
 use std::marker::Model;
 
@@ -21,18 +22,22 @@ impl<T: Drop> From<AllocFailed<T>> for NoMemory {
 }
 
 /// The name of a file, a label, a property or a variable. A contract sees it as its UTF-8 bytes.
+///
+/// It takes 16 bytes, and memory of its own only where it has more than 14.
 #[derive(Drop, Debug)]
 pub struct Name {
-    text: String,
+    held: ShortText,
 }
 
 impl Model for Name {
     ghost use Rattle.std.specs.Prelude.{List, ℕ};
-    ghost use Rattle.std.specs.String.{string_bytes};
+    ghost use Rattle.adfs_base.specs.ShortTexts.{IsText, bytes_of};
 
     ghost Value = { List ℕ };
 
-    ghost view = { λ n. string_bytes n.text };
+    ghost view = { λ n. bytes_of n.held };
+
+    ghost invariant = { λ n. IsText n.held };
 }
 
 impl Name {
@@ -40,14 +45,14 @@ impl Name {
     pub fn new(alloc: Global, text: &str) -> Result<Name, NoMemory>
         ensures { IfOk result (λ name. name ≡ text.now) }
     {
-        let text = String::from_str(alloc, text)?;
-        Ok(Name { text })
+        let held = text_of(alloc, text)?;
+        Ok(Name { held })
     }
 
     /// Its text.
     pub fn text(&self) -> &str
         ensures { result.now ≡ self.now }
     {
-        self.text.as_str()
+        text_in(&self.held)
     }
 }

@@ -15,7 +15,7 @@ All-first_of_each : {X : Type 0} (P : X → Type 0) (same : X → X → Bool) (x
 All-first_of_each P same [] all = tt
 All-first_of_each P same (x ∷ xs) all = (all.0, All-filter P (λ y. not (same x y)) (first_of_each same xs) (All-first_of_each P same xs all.1))
 
-All-kept : (P : Shown → Type 0) (texts : List (List ℕ)) (distinct : Bool) (xs : List Shown) → AllByRecursion P xs → AllByRecursion P (kept texts distinct xs)
+pub All-kept : (P : Shown → Type 0) (texts : List (List ℕ)) (distinct : Bool) (xs : List Shown) → AllByRecursion P xs → AllByRecursion P (kept texts distinct xs)
 All-kept P texts true xs all = All-first_of_each P (has_row texts) xs all
 All-kept P texts false xs all = all
 
@@ -24,7 +24,7 @@ All-take P zero xs all = tt
 All-take P (suc n) [] all = tt
 All-take P (suc n) (x ∷ xs) all = (all.0, All-take P n xs all.1)
 
-All-limited : {X : Type 0} (P : X → Type 0) (most : Option ℕ) (xs : List X) → AllByRecursion P xs → AllByRecursion P (limited most xs)
+pub All-limited : {X : Type 0} (P : X → Type 0) (most : Option ℕ) (xs : List X) → AllByRecursion P xs → AllByRecursion P (limited most xs)
 All-limited P None xs all = all
 All-limited P (Some n) xs all = All-take P n xs all
 

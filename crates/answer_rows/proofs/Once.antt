@@ -16,13 +16,13 @@ use Rattle.answer_rows.proofs.Totals.{rows_order-total}
 -- ---- no two are the same
 
 module _ {X : Type 0} (order : X → X → Ordering) (total : IsTotalOrder order) where
-  abbrev same : X → X → Bool
+  abbrev pub same : X → X → Bool
   same a b = is_eq (order a b)
 
-  abbrev IsApart : X → List X → Type 0
+  abbrev pub IsApart : X → List X → Type 0
   IsApart x xs = AllByRecursion (λ y. same x y ≡ false) xs
 
-  abbrev AreApart : List X → Type 0
+  abbrev pub AreApart : List X → Type 0
   AreApart [] = Unit {0}
   AreApart (x ∷ xs) = IsApart x xs × AreApart xs
 
@@ -45,7 +45,7 @@ module _ {X : Type 0} (order : X → X → Ordering) (total : IsTotalOrder order
   apart-others x [] = tt
   apart-others x (y ∷ ys) = others_by x y (filter (λ z. not (same x z)) ys) (apart-others x ys) (same x y) refl
 
-  AreApart-first_of_each : (xs : List X) → AreApart (first_of_each same xs)
+  pub AreApart-first_of_each : (xs : List X) → AreApart (first_of_each same xs)
   AreApart-first_of_each [] = tt
   AreApart-first_of_each (x ∷ xs) =
       (apart-others x (first_of_each same xs), AreApart-filter (λ y. not (same x y)) (first_of_each same xs) (AreApart-first_of_each xs))
@@ -73,7 +73,7 @@ module _ {X : Type 0} (order : X → X → Ordering) (total : IsTotalOrder order
   apart-in_order before x [] apart = tt
   apart-in_order before x (y ∷ ys) apart = apart-placed before x y (in_order before ys) apart.0 (apart-in_order before x ys apart.1)
 
-  AreApart-in_order : (before : X → X → Bool) (xs : List X) → AreApart xs → AreApart (in_order before xs)
+  pub AreApart-in_order : (before : X → X → Bool) (xs : List X) → AreApart xs → AreApart (in_order before xs)
   AreApart-in_order before [] apart = tt
   AreApart-in_order before (x ∷ xs) apart =
       AreApart-placed before x (in_order before xs) (apart-in_order before x xs apart.0) (AreApart-in_order before xs apart.1)

@@ -3,7 +3,7 @@ use Rattle.std.proofs.Common.{◌≡◌, ◌∙◌, ◌++◌, ◌*◌, ◌-◌, 
 use Rattle.std.specs.Prelude.{option_and_then, option_map}
 use Rattle.adfs_base.specs.declared.part_word.PartWord.{PartWord}
 use Rattle.adfs_base.specs.declared.part_word.PartWord.TheVariants as part
-use Rattle.cli_words.specs.Bare.{blank}
+use Rattle.cli_words.specs.FormOnly.{only_vertices}
 use Rattle.cli_words.specs.Line.{long_name}
 use Rattle.cli_words.specs.Values.{is_file_text, number_in, part_of, with_file_word, with_setting}
 use Rattle.cli_words.specs.declared.options.Options.{Options}
@@ -191,26 +191,26 @@ file_swaps f s word value o apart =
 -- ---- the vertices
 
 -- nothing is kept but the vertices
-abbrev pub blanked : Options → Options
-blanked o = blank o.vertices
+abbrev pub form_options : Options → Options
+form_options o = only_vertices o.vertices
 
-same-blank : (a : Option Meaning) (f g : Meaning → Options) → ((x : Meaning) → blanked (f x) ≡ blanked (g x)) → option_map blanked (option_map f a) ≡ option_map blanked (option_map g a)
-same-blank None f g same = refl
-same-blank (Some x) f g same = ap (λ o. Some o) (same x)
+same-form : (a : Option Meaning) (f g : Meaning → Options) → ((x : Meaning) → form_options (f x) ≡ form_options (g x)) → option_map form_options (option_map f a) ≡ option_map form_options (option_map g a)
+same-form None f g same = refl
+same-form (Some x) f g same = ap (λ o. Some o) (same x)
 
 -- the value of an option changes no vertices, and is in its range whatever the other values
-pub bare_setting : (s : Setting) (word : List ℕ) (o : Options) → option_map blanked (with_setting s word o) ≡ option_map blanked (with_setting s word (blanked o))
-bare_setting s word o =
-    ap (option_map blanked) (with-put s word o)
-    ∙ (same-blank (meaning_of s word) (λ x. put s x o) (λ x. put s x (blanked o)) (λ x. ap blank (put-vertices s x o ∙ sym (put-vertices s x (blanked o))))
-    ∙ sym (ap (option_map blanked) (with-put s word (blanked o))))
+pub form_options-with_setting : (s : Setting) (word : List ℕ) (o : Options) → option_map form_options (with_setting s word o) ≡ option_map form_options (with_setting s word (form_options o))
+form_options-with_setting s word o =
+    ap (option_map form_options) (with-put s word o)
+    ∙ (same-form (meaning_of s word) (λ x. put s x o) (λ x. put s x (form_options o)) (λ x. ap only_vertices (put-vertices s x o ∙ sym (put-vertices s x (form_options o))))
+    ∙ sym (ap (option_map form_options) (with-put s word (form_options o))))
 
-file-vertices : (f : FileWord) (x : Meaning) (o : Options) → blanked (put_file f x o) ≡ blanked (put_file f x (blanked o))
+file-vertices : (f : FileWord) (x : Meaning) (o : Options) → form_options (put_file f x o) ≡ form_options (put_file f x (form_options o))
 file-vertices file.Manifest x o = refl
 file-vertices f x o = refl
 
-pub bare_file : (f : FileWord) (word : List ℕ) (o : Options) → option_map blanked (with_file_word f word o) ≡ option_map blanked (with_file_word f word (blanked o))
-bare_file f word o =
-    ap (option_map blanked) (file-put f word o)
-    ∙ (same-blank (file_meaning f o.vertices word) (λ x. put_file f x o) (λ x. put_file f x (blanked o)) (λ x. file-vertices f x o)
-    ∙ sym (ap (option_map blanked) (file-put f word (blanked o))))
+pub form_options-with_file_word : (f : FileWord) (word : List ℕ) (o : Options) → option_map form_options (with_file_word f word o) ≡ option_map form_options (with_file_word f word (form_options o))
+form_options-with_file_word f word o =
+    ap (option_map form_options) (file-put f word o)
+    ∙ (same-form (file_meaning f o.vertices word) (λ x. put_file f x o) (λ x. put_file f x (form_options o)) (λ x. file-vertices f x o)
+    ∙ sym (ap (option_map form_options) (file-put f word (form_options o))))

@@ -1,7 +1,7 @@
 pub mod Apart
-pub mod BareReading
 pub mod Completions
 pub mod FilesNamed
+pub mod FormReading
 pub mod Found
 pub mod LineRules
 pub mod LongWords

@@ -2,12 +2,12 @@
 use Rattle.std.proofs.Common.{◌≡◌, ◌∙◌, ◌+◌, ◌-◌, ◌<◌, ◌≤◌, arith, sym, ap, ℕ, zero, suc, List, [], ◌∷◌, map, drop, take, length, refl, Some, option_map}
 use Rattle.std.proofs.lemmas.List.{take_all}
 use Rattle.std.specs.List.{slice_index_or}
-use Rattle.cli_words.specs.Bare.{bare, refusal}
+use Rattle.cli_words.specs.FormOnly.{form_only, place_refused}
 use Rattle.cli_words.specs.Form.{options_of, read_after, read_on, read_word}
 use Rattle.cli_words.specs.Rows.{command_named}
 use Rattle.cli_words.specs.Said.{Said, at_first}
 use Rattle.cli_words.specs.declared.command.Command.{Command}
-use Rattle.cli_words.proofs.BareReading.{goes_on}
+use Rattle.cli_words.proofs.FormReading.{goes_on}
 
 -- the words from the next one on
 pub next_word : {X : Type 0} (text : X → List ℕ) (words : List X) (i : ℕ) (word : X) → i < length words → word ≡ slice_index_or words i word
@@ -21,11 +21,11 @@ next_word text (w ∷ words) (suc i) word below is =
 
 -- the word goes on, so those from it on are refused where those after it are
 pub word_goes_on : {X : Type 0} (text : X → List ℕ) (words : List X) (i place : ℕ) (word : X) (name : List ℕ) (said next : Said) → i < length words
-    → word ≡ slice_index_or words i word → name ≡ text word → Some next ≡ option_map bare (read_word name said)
-    → refusal (read_on (map text (drop (i + 1) words)) (place + 1) next) ≡ refusal (read_on (map text (drop i words)) place said)
+    → word ≡ slice_index_or words i word → name ≡ text word → Some next ≡ option_map form_only (read_word name said)
+    → place_refused (read_on (map text (drop (i + 1) words)) (place + 1) next) ≡ place_refused (read_on (map text (drop i words)) place said)
 word_goes_on text words i place word name said next below is named e =
     goes_on name (map text (drop (i + 1) words)) place said next e
-    ∙ ap (λ rest. refusal (read_on rest place said)) (ap (λ t. t ∷ map text (drop (i + 1) words)) named ∙ next_word text words i word below is)
+    ∙ ap (λ rest. place_refused (read_on rest place said)) (ap (λ t. t ∷ map text (drop (i + 1) words)) named ∙ next_word text words i word below is)
 
 -- all the words after the first
 pub all_after_first : {X : Type 0} (words : List X) → take (length words - 1) (drop 1 words) ≡ drop 1 words

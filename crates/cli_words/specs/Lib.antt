@@ -1,8 +1,8 @@
-pub mod Bare
 pub mod Defaults
 pub mod Fault
 pub mod Files
 pub mod Form
+pub mod FormOnly
 pub mod Help
 pub mod Laws
 pub mod Line

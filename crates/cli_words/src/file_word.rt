@@ -1,7 +1,7 @@
 //! What a word that is no option must be.
 ghost use Rattle.std.specs.Prelude.{◌≡◌, IfOk, IsSome, Some, option_map};
 ghost use Rattle.clap.specs.Words.{first_of, found_of, rows_of};
-ghost use Rattle.cli_words.specs.Bare.{blank};
+ghost use Rattle.cli_words.specs.FormOnly.{only_vertices};
 ghost use Rattle.cli_words.specs.Rows.{file_word_name};
 ghost use Rattle.cli_words.specs.Values.{with_file_word};
 
@@ -51,9 +51,9 @@ impl FileWord {
         matches.get_str(self.name())
     }
 
-    // How many vertices there are after the word, where it may stand in this place.
-    pub(crate) fn check(self, word: &str, vertices: u64) -> Option<u64>
-        ensures { result ≡ option_map (λ options. options.vertices) (with_file_word self word.now (blank vertices)) }
+    // Where the word may stand in this place, how many vertices the words then say: what the number of edges is bound by.
+    pub(crate) fn vertices_after(self, word: &str, vertices: u64) -> Option<u64>
+        ensures { result ≡ option_map (λ options. options.vertices) (with_file_word self word.now (only_vertices vertices)) }
     {
         let may_stand = match self {
             FileWord::Manifest | FileWord::Queries | FileWord::Trace => is_file_text(word),

@@ -12,7 +12,7 @@
 //! for all commands (proofs/SameWalk.antt).
 //!
 //! `read_words` is exact: it gives the options, or the place of the refused word, as `options_of` does, and
-//! else only want of memory. `refusals_come_first` says what that place is: whatever follows the word there,
+//! else only that memory ran out. `refusals_come_first` says what that place is: whatever follows the word there,
 //! it is no command line, and the words before it are the front of one. `usage_text` is the text that those
 //! tables make. Whether a file is there, and which commands are answered yet, is for the caller.
 #![tactic(auto)]

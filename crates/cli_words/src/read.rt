@@ -1,7 +1,7 @@
 //! From words to options.
 ghost use Rattle.std.specs.Prelude.{◌≡◌, ◌≤◌, IfOk, map};
 ghost use Rattle.std.specs.String.{string_bytes};
-ghost use Rattle.cli_words.specs.Bare.{refusal};
+ghost use Rattle.cli_words.specs.FormOnly.{place_refused};
 ghost use Rattle.cli_words.specs.Form.{options_of, read_on};
 ghost use Rattle.cli_words.specs.Said.{to_come};
 ghost use Rattle.cli_words.specs.Fault.{GivesOptions};
@@ -62,7 +62,7 @@ pub fn read_words(alloc: Global, words: &[String]) -> Result<Options, UsageFault
 #[tactic(auto, using(crate::proofs::WordsInTurn::word_goes_on))]
 fn refused_place(words: &[String], first: Reading) -> Option<u32>
     requires { to_come first ≤ 20 }
-    ensures { result ≡ refusal (read_on (map string_bytes words.now) 1 first) }
+    ensures { result ≡ place_refused (read_on (map string_bytes words.now) 1 first) }
 {
     let mut reading = first;
     let mut place = 1;

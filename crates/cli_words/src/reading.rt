@@ -12,7 +12,8 @@ use adfs_base::NoMemory;
 use std::alloc::Global;
 use std::marker::Model;
 
-// What may still come after the words so far.
+// What may still come after the words so far. A contract sees what they said, without the values of options: these take no part in
+// which words go on, but for the number of vertices.
 #[derive(Drop)]
 pub struct Reading {
     // The file words that must still come, in order.
@@ -26,12 +27,12 @@ pub struct Reading {
 }
 
 impl Model for Reading {
-    ghost use Rattle.cli_words.specs.Bare.{blank};
+    ghost use Rattle.cli_words.specs.FormOnly.{only_vertices};
     ghost use Rattle.cli_words.specs.Said.{Said};
 
     ghost Value = { Said };
 
-    ghost view = { λ r. record { options = blank r.vertices; missing = r.missing.now; left = r.left.items; awaited = r.awaited } };
+    ghost view = { λ r. record { options = only_vertices r.vertices; missing = r.missing.now; left = r.left.items; awaited = r.awaited } };
 }
 
 // The place in the list of the option of that name.
@@ -42,13 +43,13 @@ fn place_of(left: &[Setting], name: &str) -> Option<usize>
 }
 
 impl Reading {
-    ghost use Rattle.cli_words.specs.Bare.{bare};
+    ghost use Rattle.cli_words.specs.FormOnly.{form_only};
     ghost use Rattle.cli_words.specs.Said.{Said, at_first, to_come, words_awaited};
     ghost use Rattle.cli_words.specs.Form.{read_word, read_value, read_option, read_cut, read_named, read_file, finished};
 
     // After the command alone.
     pub(crate) fn at_first(alloc: Global, command: Command) -> Result<Reading, NoMemory>
-        ensures { IfOk result (λ reading. reading ≡ bare (at_first command)) }
+        ensures { IfOk result (λ reading. reading ≡ form_only (at_first command)) }
     {
         Ok(Reading {
             missing: command.file_words(),
@@ -60,7 +61,7 @@ impl Reading {
 
     // After one more word, where a command line goes on with it.
     pub(crate) fn read_word(self, word: &str) -> Option<Reading>
-        ensures gives { result ≡ option_map bare (read_word word.now self) }
+        ensures gives { result ≡ option_map form_only (read_word word.now self) }
         ensures fewer { IfSome result (λ reading. to_come reading < to_come self) }
     {
         match self.awaited {
@@ -72,7 +73,7 @@ impl Reading {
 
     // The word is the value of this option.
     fn read_value(self, setting: Setting, word: &str) -> Option<Reading>
-        ensures gives { result ≡ option_map bare (read_value setting word.now self) }
+        ensures gives { result ≡ option_map form_only (read_value setting word.now self) }
         ensures fewer { IfSome result (λ reading. to_come reading + words_awaited self.awaited ≡ to_come self) }
     {
         if !setting.takes(word) {
@@ -86,7 +87,7 @@ impl Reading {
 
     // The word is an option, with its value or without.
     fn read_option(self, word: &str) -> Option<Reading>
-        ensures gives { result ≡ option_map bare (read_option word.now self) }
+        ensures gives { result ≡ option_map form_only (read_option word.now self) }
         ensures fewer { IfSome result (λ reading. to_come reading < to_come self) }
     {
         let (name, value) = cut_at_equals(word);
@@ -95,7 +96,7 @@ impl Reading {
 
     // The option of that name, and its value if it stands in the same word.
     fn read_name(mut self, name: &str, value: Option<&str>) -> Option<Reading>
-        ensures gives { result ≡ option_map bare (read_cut (name.now, option_map (λ s. s.now) value.entry) self) }
+        ensures gives { result ≡ option_map form_only (read_cut (name.now, option_map (λ s. s.now) value.entry) self) }
         ensures fewer { IfSome result (λ reading. to_come reading < to_come self) }
     {
         let place = place_of(&self.left, name)?;
@@ -105,7 +106,7 @@ impl Reading {
 
     // The option, which may come no more, and its value if it stands in the same word.
     fn read_named(self, setting: Setting, value: Option<&str>) -> Option<Reading>
-        ensures gives { result ≡ option_map bare (read_named (option_map (λ s. s.now) value.entry) setting self) }
+        ensures gives { result ≡ option_map form_only (read_named (option_map (λ s. s.now) value.entry) setting self) }
         ensures fewer { IfSome result (λ reading. to_come reading + words_awaited self.awaited ≤ to_come self + 1) }
     {
         match value {
@@ -119,13 +120,13 @@ impl Reading {
 
     // The word is the first of the file words that must still come.
     fn read_file(self, word: &str) -> Option<Reading>
-        ensures gives { result ≡ option_map bare (read_file word.now self) }
+        ensures gives { result ≡ option_map form_only (read_file word.now self) }
         ensures fewer { IfSome result (λ reading. to_come reading < to_come self) }
     {
         let [file, missing @ ..] = self.missing else {
             return None;
         };
-        let vertices = file.check(word, self.vertices)?;
+        let vertices = file.vertices_after(word, self.vertices)?;
         Some(Reading {
             missing,
             vertices,

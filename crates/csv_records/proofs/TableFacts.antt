@@ -1,26 +1,19 @@
 -- What the records of a table are, read one at a time.
-use Rattle.std.proofs.Common.{◌≡◌, ◌∙◌, sym, ap, refl, arith, ◌<◌, ◌≤◌, ◌+◌, ℕ, zero, suc, Bool, true, false, cond, List, [], ◌∷◌, ◌++◌, length, Option, Some, None, Bor, inl, inr, ◌⊎◌, MatchBool, IfOk, IfErr, OnOk, Ok, Err, Result, add-one}
+use Rattle.std.proofs.Common.{◌≡◌, ◌∙◌, sym, ap, refl, arith, ◌<◌, ◌≤◌, ◌+◌, ℕ, zero, suc, not, Bool, true, false, cond, List, [], ◌∷◌, ◌++◌, length, drop, Option, Some, None, inl, inr, ◌⊎◌, add-one, one-add, option_map}
+use Rattle.std.proofs.Common.{eqb-true, le-leb, nat_le, ◌==◌}
 use Rattle.std.proofs.lemmas.Bool.{false≢true}
-use Rattle.csv.specs.Machine.{Read, ends_at_end, field_after, fields_after, is_end, next_record, step}
-use Rattle.csv.specs.Reading.{ExplainsRead, NextIs, ReadRecord, ReadsNext, Ready, default_config, error_kind, has_failed, is_flexible, pending_of, reader_trim, records_from, records_next, source_of, stops_reader, took_first}
-use Rattle.csv.specs.declared.error.Error.{Error}
-use Rattle.std.specs.List.{AllByRecursion}
+use Rattle.csv.specs.Machine.{Read, ends_at_end, field_after, fields_after, in_field, is_end, next_record, start_field, start_record, step}
+use Rattle.csv.specs.Reading.{default_config, is_bom, records, records_from, records_next, strip_bom}
+use Rattle.std.specs.List.{AllByRecursion, position_or_len}
 use Rattle.std.proofs.Common.{length-append}
-use Rattle.csv.specs.declared.error.ErrorKind.{ErrorKind}
-use Rattle.csv.specs.declared.error.ErrorKind.TheVariants as kind
 use Rattle.csv.specs.declared.parser.Action.{Action}
 use Rattle.csv.specs.declared.parser.Action.TheVariants as act
 use Rattle.csv.specs.declared.parser.Config.{Config}
 use Rattle.csv.specs.declared.parser.State.{State}
 use Rattle.csv.specs.declared.parser.State.TheVariants as st
-use Rattle.csv.specs.declared.reader.Reader.{Reader}
-use Rattle.csv.specs.declared.reader.Trim.TheVariants as trim
-use Rattle.csv.specs.Reading.{is_bom, strip_bom}
-use Rattle.csv_records.specs.Table.{records_of, CanRead, Reads, records_after, records_left, remaining}
-
-chosen : {A : Type 0} (b : Bool) (x y z : A) → cond b x y ≡ z → ((b ≡ true) × (x ≡ z)) ⊎ ((b ≡ false) × (y ≡ z))
-chosen true x y z e = inl (refl, e)
-chosen false x y z e = inr (refl, e)
+use Rattle.csv_records.specs.Fields.{begins_record, ends_line, has_mark, record_from}
+use Rattle.csv_records.specs.Table.{records_of}
+use Rattle.csv_records.proofs.FieldFacts.{begins}
 
 abbrev IsLess : Read → List ℕ → Type 0
 IsLess r xs = (length r.2 < length xs) ⊎ ((r.1 ≡ st.StartRecord) × (r.2 ≡ []))
@@ -81,81 +74,186 @@ pub records-none : (cfg : Config) (s : State) (xs : List ℕ) → next_record cf
 unfolding records_from
 records-none cfg s xs e = rw (add-one (length xs), e) refl
 
--- what a read of a record does to the records that are left
-abbrev Takes : State → List ℕ → Option (List ℕ) → Bool → List (List ℕ) → State → Type 0
-Takes s xs after found f s2 = MatchBool found (records_after s (Some xs) ≡ f ∷ records_after s2 after) (records_after s (Some xs) ≡ []) × ((z : List ℕ) × (after ≡ Some z))
+-- where a record ends, the next one begins: behind a carriage return too, since blank lines are none
+abbrev Begins : State → Type 0
+Begins s = (xs : List ℕ) → next_record default_config s [] [] xs ≡ next_record default_config st.StartRecord [] [] xs
 
-takes : (s s2 : State) (xs : List ℕ) (after : Option (List ℕ)) (found : Bool) (f : List (List ℕ)) → ReadsNext default_config s (Some xs) after found f s2 → Takes s xs after found f s2
-takes s s2 xs None found f h = absurd h
-takes s s2 xs (Some ys) found f h = (by (next_record default_config s [] [] xs) refl h, (ys, refl))
+fresh : Begins st.StartRecord
+fresh xs = refl
+
+behind_return : Begins st.AfterCr
+unfolding next_record
+behind_return [] = refl
+behind_return (c ∷ rest) = by (c == 13) (c == 10) refl refl
   where
-    by : (o : Option Read) → next_record default_config s [] [] xs ≡ o → NextIs o found f s2 ys → MatchBool found (records_after s (Some xs) ≡ f ∷ records_after s2 (Some ys)) (records_after s (Some xs) ≡ [])
-    by None e h2 = rw h2 (records-none default_config s xs e)
-    by (Some r) e h2 = rw (h2.0, h2.1, h2.2, h2.3) (records-some default_config s xs r e)
+    by : (a b : Bool) → (c == 13) ≡ a → (c == 10) ≡ b → next_record default_config st.AfterCr [] [] (c ∷ rest) ≡ next_record default_config st.StartRecord [] [] (c ∷ rest)
+    by true true p q = rw (q, p) refl
+    by true false p q = rw (q, p) refl
+    by false true p q = rw (q, p) refl
+    by false false p q = rw (q, p) refl
 
--- the bytes behind a record that was read
-behind : (a b : Reader (Bor (List ℕ))) (found : Bool) (f : List (List ℕ)) → ReadRecord remaining a b found f → source_of remaining b ≡ pending_of (remaining b.rdr) b
-behind a b found f r = rw r.1 refl
-
-pub read_takes : (a b : Reader (Bor (List ℕ))) (found : Bool) (f : List (List ℕ)) → Reads a → ReadRecord remaining a b found f
-    → MatchBool found (records_left a ≡ f ∷ records_left b) (records_left a ≡ []) × ((z : List ℕ) × (source_of remaining b ≡ Some z))
-read_takes a b found f k r =
-    let t = takes a.state b.state k.known.0 (source_of remaining b) found f (rw (k.config, k.known.1, ← behind a b found f r) at r.0) in
-    rw k.known.1 t
-
--- with a flexible reader only want of memory or the reader underneath can end a read
-pub stops : (a b : Reader (Bor (List ℕ))) (k : ErrorKind) → is_flexible a ≡ true → ExplainsRead remaining a b false k → stops_reader k ≡ true
-stops a b (kind.Io e) x h = refl
-stops a b kind.OutOfMemory x h = refl
-stops a b (kind.UnequalLengths p e l) x h = absurd (false≢true (sym h.0 ∙ x))
-stops a b (kind.Utf8 p e) x h = absurd (false≢true h.0)
-stops a b (kind.Serialize w) x h = absurd h
-stops a b (kind.Deserialize p e) x h = absurd h
-
--- what a read says of the readers before and after it, and of the row
-pub record Says (a b : Reader (Bor (List ℕ))) (r : Result Bool Error) (f : List (List ℕ)) : Type 0 where
-  pub ready : reader_trim a ≡ trim.None → OnOk r (took_first b ≡ true)
-  pub reads : IfOk r (λ found. reader_trim a ≡ trim.None → Ready a → ReadRecord remaining a b found f)
-  pub flexible : OnOk r (is_flexible b ≡ is_flexible a)
-  pub goes : OnOk r (has_failed b ≡ has_failed a)
-  pub fails : IfErr r (λ e. has_failed b ≡ stops_reader (error_kind e))
-  pub failed : has_failed a ≡ true → r ≡ Ok false
-  pub why : IfErr r (λ e. Ready a → ExplainsRead remaining a b false (error_kind e))
-
-pub kept : (a b : Reader (Bor (List ℕ))) (r : Result Bool Error) (f : List (List ℕ)) → CanRead a → Says a b r f → CanRead b
-kept a b (Ok found) f can says = λ fresh.
-    let k = can (sym says.goes ∙ fresh) in
-    let r = says.reads k.trim k.ready in
-    let t = read_takes a b found f k r in
-    record { trim = r.3 ∙ k.trim; ready = inl (says.ready k.trim); config = r.2 ∙ k.config; flexible = says.flexible ∙ k.flexible; known = t.1 }
-kept a b (Err e) f can says = λ fresh. by fresh (has_failed a) refl
+field-ends : (c : ℕ) → is_end (in_field default_config c).1 ≡ true → Begins (in_field default_config c).0
+field-ends c e = by (c == 44) (c == 13) (c == 10) refl refl refl e
   where
-    by : has_failed b ≡ false → (v : Bool) → has_failed a ≡ v → Reads b
-    by fresh true is = cc (says.failed is)
-    by fresh false is =
-        let k = can is in absurd (false≢true (sym fresh ∙ says.fails ∙ stops a b (error_kind e) k.flexible (says.why k.ready)))
+    by : (a b d : Bool) → (c == 44) ≡ a → (c == 13) ≡ b → (c == 10) ≡ d → is_end (in_field default_config c).1 ≡ true → Begins (in_field default_config c).0
+    by true b d p q r f = absurd (false≢true (rw p at f))
+    by false true d p q r f = rw (p, q) behind_return
+    by false false true p q r f = rw (p, q, r) fresh
+    by false false false p q r f = absurd (false≢true (rw (p, q, r) at f))
 
--- a reader that failed has no records left
-none_left : (a : Reader (Bor (List ℕ))) → has_failed a ≡ true → records_left a ≡ []
-none_left a failed = rw failed refl
-
--- and one that fails now has none
-pub ended_by : (a b : Reader (Bor (List ℕ))) (r : Result Bool Error) (f : List (List ℕ)) → CanRead a → Says a b r f → IfErr r (λ e. records_left b ≡ [])
-ended_by a b (Ok found) f can says = tt
-ended_by a b (Err e) f can says = by (has_failed a) refl
+start-ends : (c : ℕ) → is_end (start_field default_config c).1 ≡ true → Begins (start_field default_config c).0
+start-ends c e = by (c == 34) refl e
   where
-    by : (v : Bool) → has_failed a ≡ v → records_left b ≡ []
-    by true is = cc (says.failed is)
-    by false is = let k = can is in none_left b (says.fails ∙ stops a b (error_kind e) k.flexible (says.why k.ready))
+    by : (a : Bool) → (c == 34) ≡ a → is_end (start_field default_config c).1 ≡ true → Begins (start_field default_config c).0
+    by true p f = absurd (false≢true (rw p at f))
+    by false p f = rw p (field-ends c (rw p at f))
 
-pub got : (a b : Reader (Bor (List ℕ))) (r : Result Bool Error) (f : List (List ℕ)) → CanRead a → Says a b r f
-    → IfOk r (λ found. MatchBool found (records_left a ≡ f ∷ records_left b) (records_left a ≡ []))
-got a b (Err e) f can says = tt
-got a b (Ok found) f can says = by (has_failed a) refl
+skips-end : (b : Bool) (x : State × Action) → (is_end x.1 ≡ true → Begins x.0) → is_end (cond b (st.StartRecord, act.Skip) x).1 ≡ true → Begins (cond b (st.StartRecord, act.Skip) x).0
+skips-end true x more e = absurd (false≢true e)
+skips-end false x more e = more e
+
+first-ends : (c : ℕ) → is_end (start_record default_config c).1 ≡ true → Begins (start_record default_config c).0
+first-ends c e = skips-end (ends_line c) (start_field default_config c) (start-ends c) e
+
+step-ends : (s : State) (c : ℕ) → is_end (step default_config s c).1 ≡ true → Begins (step default_config s c).0
+step-ends st.StartRecord c e = first-ends c e
+step-ends st.StartField c e = start-ends c e
+step-ends st.InField c e = field-ends c e
+step-ends st.InEscape c e = absurd (false≢true e)
+step-ends st.InQuoted c e = by (c == 34) refl e
   where
-    by : (v : Bool) → has_failed a ≡ v → MatchBool found (records_left a ≡ f ∷ records_left b) (records_left a ≡ [])
-    by true is = let no : found ≡ false = cc (says.failed is) in rw no (none_left a is)
-    by false is = let k = can is in (read_takes a b found f k (says.reads k.trim k.ready)).0
+    by : (a : Bool) → (c == 34) ≡ a → is_end (step default_config st.InQuoted c).1 ≡ true → Begins (step default_config st.InQuoted c).0
+    by true p f = absurd (false≢true (rw p at f))
+    by false p f = absurd (false≢true (rw p at f))
+step-ends st.AfterQuote c e = by (c == 34) refl e
+  where
+    by : (a : Bool) → (c == 34) ≡ a → is_end (step default_config st.AfterQuote c).1 ≡ true → Begins (step default_config st.AfterQuote c).0
+    by true p f = absurd (false≢true (rw p at f))
+    by false p f = rw p (field-ends c (rw p at f))
+step-ends st.InComment c e = by (c == 10) refl e
+  where
+    by : (a : Bool) → (c == 10) ≡ a → is_end (step default_config st.InComment c).1 ≡ true → Begins (step default_config st.InComment c).0
+    by true p f = absurd (false≢true (rw p at f))
+    by false p f = absurd (false≢true (rw p at f))
+step-ends st.AfterCr c e = skips-end (c == 10) (start_record default_config c) (first-ends c) e
+
+-- the state behind a record is one at which a record begins
+state-behind : (s : State) (f : List (List ℕ)) (p xs : List ℕ) (r : Read) → next_record default_config s f p xs ≡ Some r → Begins r.1
+unfolding next_record
+state-behind s f p [] r e = by (ends_at_end s) e
+  where
+    by : (b : Bool) → cond b (Some (f ++ (p ∷ []), st.StartRecord, [])) None ≡ Some r → Begins r.1
+    by true w = let is : st.StartRecord ≡ r.1 = cc w in rw (← is) fresh
+    by false w = cc w
+state-behind s f p (c ∷ rest) r e =
+    by (is_end (step default_config s c).1) refl (state-behind (step default_config s c).0 (fields_after (step default_config s c).1 f p) (field_after (step default_config s c).1 c p) rest r) e
+  where
+    by : (b : Bool) → is_end (step default_config s c).1 ≡ b
+        → (next_record default_config (step default_config s c).0 (fields_after (step default_config s c).1 f p) (field_after (step default_config s c).1 c p) rest ≡ Some r → Begins r.1)
+        → cond b (Some (fields_after (step default_config s c).1 f p, (step default_config s c).0, rest))
+        (next_record default_config (step default_config s c).0 (fields_after (step default_config s c).1 f p) (field_after (step default_config s c).1 c p) rest) ≡ Some r
+        → Begins r.1
+    by true ends more w = let is : (step default_config s c).0 ≡ r.1 = cc w in rw (← is) (step-ends s c ends)
+    by false ends more w = more w
+
+-- the records from such a state
+from_begun : (n : ℕ) (s : State) (xs : List ℕ) → Begins s → records_from default_config (n + 1) s xs ≡ records_from default_config (n + 1) st.StartRecord xs
+unfolding records_from
+from_begun n s xs begins = rw (add-one n, begins xs) refl
+
+inside : {A : Type 0} (x y : A) → Some x ≡ Some y → x ≡ y
+inside x y e = cc e
+
+-- a record that was read, and those behind it
+one_read : (xs ys : List ℕ) (f : List (List ℕ)) → record_from st.StartRecord [] [] xs ≡ Some (f, ys) → records default_config xs ≡ f ∷ records default_config ys
+one_read xs ys f e = by (next_record default_config st.StartRecord [] [] xs) refl e
+  where
+    by : (o : Option Read) → next_record default_config st.StartRecord [] [] xs ≡ o → option_map {U = List (List ℕ) × List ℕ} (λ (r : Read). (r.0, r.2)) o ≡ Some (f, ys) → records default_config xs ≡ f ∷ records default_config ys
+    by None p q = cc q
+    by (Some r) p q =
+        let both = inside {A = List (List ℕ) × List ℕ} (r.0, r.2) (f, ys) q in
+        let fields : r.0 ≡ f = ap (λ (t : List (List ℕ) × List ℕ). t.0) both in
+        let rest : r.2 ≡ ys = ap (λ (t : List (List ℕ) × List ℕ). t.1) both in
+        rw (← fields, ← rest) (records-some default_config st.StartRecord xs r p ∙ ap (λ t. r.0 ∷ t) (from_begun (length r.2) r.1 r.2 (state-behind st.StartRecord [] [] xs r p)))
+
+-- texts with the same first record have the same records
+same_first : (xs ys : List ℕ) → next_record default_config st.StartRecord [] [] xs ≡ next_record default_config st.StartRecord [] [] ys → records default_config xs ≡ records default_config ys
+same_first xs ys e = by (next_record default_config st.StartRecord [] [] ys) refl
+  where
+    by : (o : Option Read) → next_record default_config st.StartRecord [] [] ys ≡ o → records default_config xs ≡ records default_config ys
+    by None p = records-none default_config st.StartRecord xs (e ∙ p) ∙ sym (records-none default_config st.StartRecord ys p)
+    by (Some r) p = records-some default_config st.StartRecord xs r (e ∙ p) ∙ sym (records-some default_config st.StartRecord ys r p)
+
+abbrev start : List ℕ → ℕ
+start xs = position_or_len begins_record xs
+
+-- blank lines are no records
+blank : (xs : List ℕ) → next_record default_config st.StartRecord [] [] xs ≡ next_record default_config st.StartRecord [] [] (drop (start xs) xs)
+unfolding next_record
+blank [] = refl
+blank (c ∷ rest) = by (ends_line c) refl (blank rest)
+  where
+    by : (b : Bool) → ends_line c ≡ b → next_record default_config st.StartRecord [] [] rest ≡ next_record default_config st.StartRecord [] [] (drop (start rest) rest)
+        → next_record default_config st.StartRecord [] [] (c ∷ rest) ≡ next_record default_config st.StartRecord [] [] (drop (start (c ∷ rest)) (c ∷ rest))
+    by true e more =
+        let at : start (c ∷ rest) ≡ suc (start rest) = rw (e, one-add) refl in
+        rw (at, e) more
+    by false e more =
+        let at : start (c ∷ rest) ≡ 0 = rw e refl in
+        rw at refl
+
+-- where a text isn't blank, its first field begins behind the blank lines
+first_field : (xs : List ℕ) → (length (drop (start xs) xs) == 0) ≡ false
+    → record_from st.StartRecord [] [] (drop (start xs) xs) ≡ record_from st.StartField [] [] (drop (start xs) xs)
+first_field [] some = cc some
+first_field (c ∷ rest) some = by (ends_line c) refl (first_field rest) some
+  where
+    by : (b : Bool) → ends_line c ≡ b
+        → ((length (drop (start rest) rest) == 0) ≡ false → record_from st.StartRecord [] [] (drop (start rest) rest) ≡ record_from st.StartField [] [] (drop (start rest) rest))
+        → (length (drop (start (c ∷ rest)) (c ∷ rest)) == 0) ≡ false
+        → record_from st.StartRecord [] [] (drop (start (c ∷ rest)) (c ∷ rest)) ≡ record_from st.StartField [] [] (drop (start (c ∷ rest)) (c ∷ rest))
+    by true e more w =
+        let at : start (c ∷ rest) ≡ suc (start rest) = rw (e, one-add) refl in
+        rw at (more (rw at at w))
+    by false e more w =
+        let at : start (c ∷ rest) ≡ 0 = rw e refl in
+        rw at (begins c rest e)
+
+-- the first record of a text, and those behind it
+pub record_read : (xs ys : List ℕ) (f : List (List ℕ)) → (length (drop (start xs) xs) == 0) ≡ false
+    → record_from st.StartField [] [] (drop (start xs) xs) ≡ Some (f, ys) → records default_config xs ≡ f ∷ records default_config ys
+record_read xs ys f some e = same_first xs (drop (start xs) xs) (blank xs) ∙ one_read (drop (start xs) xs) ys f (first_field xs some ∙ e)
+
+-- no bytes, no records
+none_of : (xs : List ℕ) → (length xs == 0) ≡ true → records default_config xs ≡ []
+unfolding next_record
+none_of [] e = records-none default_config st.StartRecord [] refl
+none_of (c ∷ rest) e = let no : length (c ∷ rest) ≡ 0 = eqb-true (length (c ∷ rest)) 0 e in absurd (omega (arith, no))
+
+pub no_bytes : records default_config [] ≡ []
+no_bytes = none_of [] refl
+
+-- a blank text has no records
+pub none_read : (xs : List ℕ) → (length (drop (start xs) xs) == 0) ≡ true → records default_config xs ≡ []
+none_read xs none = same_first xs (drop (start xs) xs) (blank xs) ∙ none_of (drop (start xs) xs) none
+
+-- the mark, as the code looks for it
+pub mark : (xs : List ℕ) → strip_bom xs ≡ cond (has_mark xs) (drop 3 xs) xs
+unfolding strip_bom
+mark [] = refl
+mark (a ∷ []) = refl
+mark (a ∷ b ∷ []) = refl
+mark (a ∷ b ∷ c ∷ rest) = by (a == 0xEF) (b == 0xBB) (c == 0xBF) refl refl refl
+  where
+    long : nat_le 3 (length (a ∷ b ∷ c ∷ rest)) ≡ true
+    long = le-leb 3 (length (a ∷ b ∷ c ∷ rest)) (omega arith)
+
+    by : (p q r : Bool) → (a == 0xEF) ≡ p → (b == 0xBB) ≡ q → (c == 0xBF) ≡ r
+        → strip_bom (a ∷ b ∷ c ∷ rest) ≡ cond (has_mark (a ∷ b ∷ c ∷ rest)) rest (a ∷ b ∷ c ∷ rest)
+    by true true true e f g = rw (long, e, f, g) refl
+    by true true false e f g = rw (long, e, f, g) refl
+    by true false r e f g = rw (long, e, f) refl
+    by false q r e f g = rw (long, e) refl
 
 -- a table has no more records than turns
 turns : (cfg : Config) (n : ℕ) (s : State) (xs : List ℕ) → length (records_from cfg n s xs) ≤ n

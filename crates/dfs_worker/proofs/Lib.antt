@@ -4,6 +4,7 @@ pub mod Facts
 pub mod Places
 pub mod Keeps
 pub mod Advances
+pub mod Passing
 pub mod Roots
 pub mod Counts
 pub mod Weights

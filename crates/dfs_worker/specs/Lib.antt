@@ -4,6 +4,7 @@ pub mod Tower
 pub mod Own
 pub mod Sound
 pub mod Guards
+pub mod Passing
 pub mod Census
 pub mod Weight
 pub mod Turn

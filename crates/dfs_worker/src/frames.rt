@@ -1,11 +1,12 @@
 //! One answer of a frame, made in place.
 ghost use Rattle.std.specs.Prelude.{◌≡◌, ◌+◌, ◌<◌, ◌≤◌, length, vec_len, vec_capacity, OnOk, OnErr, IfOk, Some, None, if◌then◌else◌};
 ghost use Rattle.dfs_worker.specs.Own.{ended, stepped, rows_with, answer_at, IsRow, frame_if};
+ghost use Rattle.dfs_worker.specs.Passing.{Passed};
 ghost use Rattle.dfs_worker.specs.Sound.{RestFits};
 ghost use Rattle.match_context.specs.Tree.{after};
 
 use adfs_base::NoMemory;
-use match_context::{Context, Expand, Frame, Next, Rest};
+use match_context::{Context, Expand, Found, Frame, Next, Rest};
 
 /// Makes one answer of a frame, in place. A row goes to the rows, and only that may find no memory; then the frame is
 /// as before.
@@ -62,6 +63,21 @@ fn answer<X: Expand>(
         Next::End => return Ok(move_on(x, machine, frame)),
     }
     Ok(true)
+}
+
+/// Makes answers of a frame before the last stage, in place: those of which nothing comes, and one more. It tells how
+/// many gave nothing, and then whether the frame stays.
+pub fn pass<X: Expand>(x: &X, machine: u32, frame: &mut Frame) -> (u64, bool)
+    requires machine_in { machine < (X.tree x.now).machines }
+    requires stage_in { frame.old.stage + 1 < (X.tree x.now).stages }
+    requires roots_in { RestFits ((X.tree x.now).roots machine) frame.old.rest }
+    ensures { Passed (X.tree x.now) machine frame.old result.0 (frame_if result.1 frame.new) }
+{
+    let (passed, found) = x.seek(machine, frame);
+    match found {
+        Found::End => (passed, move_on(x, machine, frame)),
+        _ => (passed, true),
+    }
 }
 
 /// Goes on with the frame's next root or item, as its context has ended. A message frame that has none is over;

@@ -1,5 +1,5 @@
 //! The guards of each event that look at the worker alone.
-ghost use Rattle.std.specs.Prelude.{◌≡◌, Some, None, if◌then◌else◌};
+ghost use Rattle.std.specs.Prelude.{◌≡◌, ◌↔◌, IsTrue, Some, None, if◌then◌else◌};
 ghost use Rattle.dfs_worker.specs.Guards.{own_guard, start_guard, top_over, waits, is_charged, is_posted, is_popped, is_emptied};
 ghost use Rattle.dfs_worker.specs.Sound.{IsWorker};
 ghost use Rattle.dfs_worker.specs.State.{is_over, is_free, next_stage};
@@ -11,6 +11,7 @@ use crate::worker::Worker;
 use match_context::Rest;
 
 /// The guard that fails where the test does, else none.
+#[inline(always)]
 fn unless(test: bool, guard: Guard) -> Option<Guard>
     ensures { result ≡ (if test then None else Some guard) }
 {
@@ -31,6 +32,7 @@ pub fn is_over(rest: &Rest) -> bool
 impl Worker {
     /// The first of the event's guards that fails on the worker alone. What the event asks of what the workers
     /// share is tested after these.
+    #[inline(always)]
     pub fn guard(&self, event: &Event) -> Option<Guard>
         requires { IsWorker self.now }
         ensures { result ≡ own_guard event.now self.now }
@@ -126,6 +128,17 @@ impl Worker {
             Some(Guard::Child)
         } else {
             unless(!is_over(&top.rest), Guard::Over)
+        }
+    }
+
+    /// Whether its top has an answer to give now.
+    #[inline]
+    pub fn may_advance(&self) -> bool
+        ensures { IsTrue result ↔ (own_guard (Event.Advance 0) self.now ≡ None) }
+    {
+        match self.top() {
+            Some(top) => self.is_free() && top.wait.is_none() && !is_over(&top.rest),
+            None => false,
         }
     }
 

@@ -1,8 +1,10 @@
 //! A worker's stack of frames.
-ghost use Rattle.std.specs.Prelude.{◌≡◌, ◌<◌, ◌≤◌, ◌↔◌, [], ◌∷◌, length, reverse, vec_len, vec_capacity, OnOk, OnErr, IfOk, IfSome, IfNone, MatchOption, IsTrue, Some, None};
+ghost use Rattle.std.specs.Prelude.{◌≡◌, ◌+◌, ◌<◌, List, ◌≤◌, ◌↔◌, [], ◌∷◌, length, reverse, vec_len, vec_capacity, OnOk, OnErr, IfOk, IfSome, IfNone, MatchOption, IsTrue, Some, None};
 ghost use Rattle.dfs_worker.specs.State.{next_stage};
 ghost use Rattle.dfs_worker.specs.Own.{frames_after, rows_after, AddsRow};
+ghost use Rattle.dfs_worker.specs.Passing.{TopBelow, TopPassed};
 ghost use Rattle.dfs_worker.specs.Sound.{TopFits};
+ghost use Rattle.match_context.specs.declared.context.Context.{Context};
 ghost use Rattle.dfs_worker.specs.Tower.{with_frames, child_of, without_child, top_of};
 
 use crate::frames;
@@ -100,6 +102,58 @@ impl Stack {
             self.frames.truncate(count - 1);
         }
         Ok(())
+    }
+
+    /// Makes answers of the top, in place: before the last stage those of which nothing comes, and one more; at the last
+    /// stage its next answer. It tells how many gave nothing. After `NoMemory` all is as before.
+    #[inline]
+    pub fn advance_on<X: Expand>(
+        &mut self,
+        x: &X,
+        machine: u32,
+        rows: &mut Vec<Context>,
+    ) -> Result<u64, NoMemory>
+        requires machine_in { machine < (X.tree x.now).machines }
+        requires fits { TopFits (X.tree x.now).stages ((X.tree x.now).roots machine) self.old.frames }
+        requires some { self.old.frames ≡ [] → ⊥ }
+        ensures ok { IfOk result (λ passed. TopPassed (X.tree x.now) machine self.old.frames rows.old.items passed self.new.frames rows.new.items) }
+        ensures room { self.new.room ≡ self.old.room }
+        ensures err { OnErr result ((self.new ≡ self.old) × (rows.new.items ≡ rows.old.items)) }
+    {
+        if self.is_below(x.stages()) {
+            return Ok(self.pass(x, machine));
+        }
+        self.advance(x, machine, rows)?;
+        Ok(0)
+    }
+
+    /// Whether the top is of a stage before the last of so many.
+    fn is_below(&self, stages: u32) -> bool
+        ensures { IsTrue result ↔ TopBelow stages self.now.frames }
+    {
+        match self.frames.last() {
+            Some(top) => top.stage < stages.saturating_sub(1),
+            None => false,
+        }
+    }
+
+    /// Makes answers of the top, in place: those of which nothing comes, and one more. It tells how many gave nothing.
+    fn pass<X: Expand>(&mut self, x: &X, machine: u32) -> u64
+        requires machine_in { machine < (X.tree x.now).machines }
+        requires fits { TopFits (X.tree x.now).stages ((X.tree x.now).roots machine) self.old.frames }
+        requires below { TopBelow (X.tree x.now).stages self.old.frames }
+        ensures passed { (rows : List Context) → TopPassed (X.tree x.now) machine self.old.frames rows result self.new.frames rows }
+        ensures room { self.new.room ≡ self.old.room }
+    {
+        let count = self.frames.len();
+        if count == 0 {
+            return 0;
+        }
+        let (passed, kept) = frames::pass(x, machine, &mut self.frames[count - 1]);
+        if !kept {
+            self.frames.truncate(count - 1);
+        }
+        passed
     }
 
     /// Takes the child with which the top waits.

@@ -316,8 +316,10 @@ impl Worker {
 
 /// Its own part of each event.
 impl Worker {
-    ghost use Rattle.dfs_worker.specs.Guards.{child_test, is_charged, top_over};
+    ghost use Rattle.dfs_worker.specs.declared.event.Event.TheVariants as kind;
+    ghost use Rattle.dfs_worker.specs.Guards.{child_test, is_charged, own_guard, top_over};
     ghost use Rattle.dfs_worker.specs.Own.{claimed, advanced, descended, appended, charged, fetched, posted, freed, popped, picked, restored, AddsRow, IsTopBuffer};
+    ghost use Rattle.dfs_worker.specs.Passing.{Advances};
     ghost use Rattle.dfs_worker.specs.Slots.{has_room};
     ghost use Rattle.dfs_worker.specs.Sound.{IsWorker, WithinRoots};
 
@@ -352,6 +354,21 @@ impl Worker {
         ensures memory { OnErr result (AddsRow (X.tree x.now) self.old.machine self.old.stack) }
     {
         self.stack.advance(x, self.machine, &mut self.rows)
+    }
+
+    /// Answers of the top, made in one go: some of which nothing comes, and one more. It tells how many gave nothing.
+    /// After `NoMemory`, which only a row may meet, all is as before.
+    #[inline]
+    pub fn advance_on<X: Expand>(&mut self, x: &X) -> Result<u64, NoMemory>
+        requires worker { IsWorker self.old }
+        requires enabled { own_guard (kind.Advance 0) self.old ≡ None }
+        requires stages { self.old.shape.stages ≡ (X.tree x.now).stages }
+        requires machines { self.old.shape.machines ≡ (X.tree x.now).machines }
+        requires roots { WithinRoots ((X.tree x.now).roots self.old.machine) self.old.stack }
+        ensures ok { IfOk result (λ passed. Advances (X.tree x.now) passed self.old self.new) }
+        ensures err { OnErr result (self.new ≡ self.old) }
+    {
+        self.stack.advance_on(x, self.machine, &mut self.rows)
     }
 
     /// The waiting child becomes the top.

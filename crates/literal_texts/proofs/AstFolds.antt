@@ -19,11 +19,11 @@ fold-Date X step expr content at is = ap (fold-AstExpr X step) (is ∙ sym (ast.
 pub fold-Bool : (X : Type 0) (step : AstExpr-F X → X) (expr : AstExpr) (truth : Bool) (at : ℕ) → expr ≡ ast.Bool truth at → fold-AstExpr X step expr ≡ step (AstExpr-F.Bool truth at)
 fold-Bool X step expr truth at is = ap (fold-AstExpr X step) (is ∙ sym (ast.rolls-Bool truth at)) ∙ fold-roll-AstExpr X step (AstExpr-F.Bool truth at)
 
-pub fold-Name : (X : Type 0) (step : AstExpr-F X → X) (expr : AstExpr) (name : List ℕ) (at : ℕ) → expr ≡ ast.Name name at → fold-AstExpr X step expr ≡ step (AstExpr-F.Name name at)
-fold-Name X step expr name at is = ap (fold-AstExpr X step) (is ∙ sym (ast.rolls-Name name at)) ∙ fold-roll-AstExpr X step (AstExpr-F.Name name at)
+pub fold-Name : (X : Type 0) (step : AstExpr-F X → X) (expr : AstExpr) (name : List ℕ) (at : ℕ) → expr ≡ ast.Name at name → fold-AstExpr X step expr ≡ step (AstExpr-F.Name at name)
+fold-Name X step expr name at is = ap (fold-AstExpr X step) (is ∙ sym (ast.rolls-Name at name)) ∙ fold-roll-AstExpr X step (AstExpr-F.Name at name)
 
-pub fold-Property : (X : Type 0) (step : AstExpr-F X → X) (expr : AstExpr) (variable property : List ℕ) (at : ℕ) → expr ≡ ast.Property variable property at → fold-AstExpr X step expr ≡ step (AstExpr-F.Property variable property at)
-fold-Property X step expr variable property at is = ap (fold-AstExpr X step) (is ∙ sym (ast.rolls-Property variable property at)) ∙ fold-roll-AstExpr X step (AstExpr-F.Property variable property at)
+pub fold-Property : (X : Type 0) (step : AstExpr-F X → X) (expr : AstExpr) (variable property : List ℕ) (at : ℕ) → expr ≡ ast.Property at variable property → fold-AstExpr X step expr ≡ step (AstExpr-F.Property at variable property)
+fold-Property X step expr variable property at is = ap (fold-AstExpr X step) (is ∙ sym (ast.rolls-Property at variable property)) ∙ fold-roll-AstExpr X step (AstExpr-F.Property at variable property)
 
 pub fold-Id : (X : Type 0) (step : AstExpr-F X → X) (expr : AstExpr) (variable : Placed) (at : ℕ) → expr ≡ ast.Id variable at → fold-AstExpr X step expr ≡ step (AstExpr-F.Id variable at)
 fold-Id X step expr variable at is = ap (fold-AstExpr X step) (is ∙ sym (ast.rolls-Id variable at)) ∙ fold-roll-AstExpr X step (AstExpr-F.Id variable at)
@@ -40,5 +40,5 @@ fold-Neg X step expr inside at is = ap (fold-AstExpr X step) (is ∙ sym (ast.ro
 pub fold-IsNull : (X : Type 0) (step : AstExpr-F X → X) (expr : AstExpr) (inside : AstExpr) (negated : Bool) (at : ℕ) → expr ≡ ast.IsNull inside negated at → fold-AstExpr X step expr ≡ step (AstExpr-F.IsNull (fold-AstExpr X step inside) negated at)
 fold-IsNull X step expr inside negated at is = ap (fold-AstExpr X step) (is ∙ sym (ast.rolls-IsNull inside negated at)) ∙ fold-roll-AstExpr X step (AstExpr-F.IsNull inside negated at)
 
-pub fold-Binary : (X : Type 0) (step : AstExpr-F X → X) (expr : AstExpr) (op : Op) (left right : AstExpr) (at : ℕ) → expr ≡ ast.Binary op left right at → fold-AstExpr X step expr ≡ step (AstExpr-F.Binary op (fold-AstExpr X step left) (fold-AstExpr X step right) at)
-fold-Binary X step expr op left right at is = ap (fold-AstExpr X step) (is ∙ sym (ast.rolls-Binary op left right at)) ∙ fold-roll-AstExpr X step (AstExpr-F.Binary op left right at)
+pub fold-Binary : (X : Type 0) (step : AstExpr-F X → X) (expr : AstExpr) (op : Op) (left right : AstExpr) (at : ℕ) → expr ≡ ast.Binary op at left right → fold-AstExpr X step expr ≡ step (AstExpr-F.Binary op at (fold-AstExpr X step left) (fold-AstExpr X step right))
+fold-Binary X step expr op left right at is = ap (fold-AstExpr X step) (is ∙ sym (ast.rolls-Binary op at left right)) ∙ fold-roll-AstExpr X step (AstExpr-F.Binary op at left right)

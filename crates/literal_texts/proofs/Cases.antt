@@ -26,11 +26,11 @@ pub literals-Bool : (whole : AstExpr) (truth : Bool) (at : ℕ) → whole ≡ as
 unfolding literals
 literals-Bool whole truth at is = fold-Bool (List (List ℕ)) literals_of whole truth at is
 
-pub literals-Name : (whole : AstExpr) (name : List ℕ) (at : ℕ) → whole ≡ ast.Name name at → literals whole ≡ []
+pub literals-Name : (whole : AstExpr) (name : List ℕ) (at : ℕ) → whole ≡ ast.Name at name → literals whole ≡ []
 unfolding literals
 literals-Name whole name at is = fold-Name (List (List ℕ)) literals_of whole name at is
 
-pub literals-Property : (whole : AstExpr) (variable property : List ℕ) (at : ℕ) → whole ≡ ast.Property variable property at → literals whole ≡ []
+pub literals-Property : (whole : AstExpr) (variable property : List ℕ) (at : ℕ) → whole ≡ ast.Property at variable property → literals whole ≡ []
 unfolding literals
 literals-Property whole variable property at is = fold-Property (List (List ℕ)) literals_of whole variable property at is
 
@@ -54,7 +54,7 @@ pub literals-IsNull : (whole : AstExpr) (inside : AstExpr) (negated : Bool) (at 
 unfolding literals
 literals-IsNull whole inside negated at is = fold-IsNull (List (List ℕ)) literals_of whole inside negated at is
 
-pub literals-Binary : (whole : AstExpr) (op : Op) (left right : AstExpr) (at : ℕ) → whole ≡ ast.Binary op left right at → literals whole ≡ literals left ++ literals right
+pub literals-Binary : (whole : AstExpr) (op : Op) (left right : AstExpr) (at : ℕ) → whole ≡ ast.Binary op at left right → literals whole ≡ literals left ++ literals right
 unfolding literals
 literals-Binary whole op left right at is = fold-Binary (List (List ℕ)) literals_of whole op left right at is
 

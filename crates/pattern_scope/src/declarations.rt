@@ -5,7 +5,7 @@ ghost use Rattle.pattern_scope.specs.declared.scope.Declared.{Declared};
 
 use crate::scope::Declared;
 use adfs_base::{Name, NoMemory};
-use sqlite_items::Items;
+use sqlite_items::{Boxed, Items};
 use std::alloc::Global;
 use std::marker::Model;
 use value_text::Texts;
@@ -36,7 +36,7 @@ impl Model for Declarations {
 
 // Notes a further variable, if it has a name that none has yet.
 fn note(
-    name: &Option<Name>,
+    name: &Option<Boxed<Name>>,
     number: usize,
     edge: bool,
     names: &mut Texts,
@@ -48,7 +48,7 @@ fn note(
     let Some(name) = name else {
         return Ok(());
     };
-    let text = name.text().as_bytes();
+    let text = name.get().text().as_bytes();
     if names.find(text).is_some() {
         return Ok(());
     }

@@ -100,7 +100,7 @@ fn either(a: bool, b: bool) -> bool
 }
 
 // The same for all links.
-fn unite_all(parents: &mut [usize], links: &[(usize, usize)]) -> bool
+fn unite_all(parents: &mut [usize], links: &[(u32, u32)]) -> bool
     requires forest { spec.IsForest parents.old }
     requires inside { All (spec.IsWithin (length parents.old)) links.now }
     ensures as_many { length parents.new ≡ length parents.old }
@@ -111,7 +111,7 @@ fn unite_all(parents: &mut [usize], links: &[(usize, usize)]) -> bool
 {
     let mut united = false;
     for (left, right) in links {
-        let further = unite(parents, *left, *right);
+        let further = unite(parents, *left as usize, *right as usize);
         united = either(united, further);
     }
     united
@@ -140,7 +140,7 @@ fn alone(alloc: Global, count: usize) -> Result<Vec<usize>, NoMemory>
 }
 
 // Joins all that links join, however far apart.
-fn join(parents: &mut [usize], links: &[(usize, usize)])
+fn join(parents: &mut [usize], links: &[(u32, u32)])
     requires alone { spec.AreJoinedSoFar (length parents.old) links.now parents.old }
     requires inside { All (spec.IsWithin (length parents.old)) links.now }
     ensures { spec.AreGroups (length parents.old) links.now parents.new }
@@ -151,7 +151,7 @@ fn join(parents: &mut [usize], links: &[(usize, usize)])
 }
 
 // Variables that stand for all which links join.
-fn groups_of(alloc: Global, count: usize, links: &[(usize, usize)]) -> Result<Vec<usize>, NoMemory>
+fn groups_of(alloc: Global, count: usize, links: &[(u32, u32)]) -> Result<Vec<usize>, NoMemory>
     requires { All (spec.IsWithin count) links.now }
     ensures { IfOk result (λ groups. spec.AreGroups count links.now groups.items) }
 {
@@ -169,22 +169,22 @@ fn greater(a: usize, b: usize) -> usize
 }
 
 // The greatest number of a variable in links and vertices.
-fn most_linked(links: &[(usize, usize)]) -> usize
+fn most_linked(links: &[(u32, u32)]) -> usize
     ensures { All (λ link. (link.0 ≤ result) × (link.1 ≤ result)) links.now }
 {
     let mut most = 0;
     for (left, right) in links {
-        most = greater(most, greater(*left, *right));
+        most = greater(most, greater(*left as usize, *right as usize));
     }
     most
 }
 
-fn most_of(vertices: &[(usize, u32)]) -> usize
+fn most_of(vertices: &[(u32, u32)]) -> usize
     ensures { All (λ vertex. vertex.0 ≤ result) vertices.now }
 {
     let mut most = 0;
     for (number, _) in vertices {
-        most = greater(most, *number);
+        most = greater(most, *number as usize);
     }
     most
 }
@@ -208,14 +208,14 @@ fn add_if_apart(
 // The same of all.
 fn add_apart(
     groups: &[usize],
-    vertices: &[(usize, u32)],
+    vertices: &[(u32, u32)],
     faults: &mut Items<TypeFault>,
 ) -> Result<(), NoMemory>
     requires { All (λ vertex. vertex.0 < length groups.now) vertices.now }
     ensures { (links : List (ℕ × ℕ)) → spec.AreGroups (length groups.now) links groups.now → OnOk result (faults.new ≡ faults.old ++ spec.disconnected links vertices.now) }
 {
     for (number, at) in vertices {
-        add_if_apart(groups, *number, *at, faults)?;
+        add_if_apart(groups, *number as usize, *at, faults)?;
     }
     Ok(())
 }

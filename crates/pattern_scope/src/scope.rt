@@ -7,8 +7,8 @@ ghost use Rattle.pattern_scope.specs.Scope.{Gives};
 use crate::declarations::Declarations;
 use crate::fault::TypeFault;
 use adfs_base::{EDGE_VARIABLES, Name, NoMemory, VERTEX_VARIABLES};
-use pgql_tree::{EdgePat, Path, Placed, VertexPat};
-use sqlite_items::Items;
+use pgql_tree::{EdgePat, Labels, Path, Placed, VertexPat};
+use sqlite_items::{Boxed, Items};
 use std::alloc::Global;
 use typed_query::EdgeJoin;
 
@@ -20,18 +20,18 @@ pub struct Scope {
     /// Label lists, each with the number of its variable.
     pub labels: Items<(usize, Items<Name>)>,
     /// The numbers of the vertex variables, each with the place of its first pattern.
-    pub vertices: Items<(usize, u32)>,
+    pub vertices: Items<(u32, u32)>,
     /// The joins of the edge variables.
     pub edges: Items<EdgeJoin>,
     /// The vertices that an edge pattern joins.
-    pub links: Items<(usize, usize)>,
+    pub links: Items<(u32, u32)>,
     pub faults: Items<TypeFault>,
 }
 
 /// A variable.
 #[derive(Drop)]
 pub struct Declared {
-    pub name: Option<Name>,
+    pub name: Option<Boxed<Name>>,
     pub edge: bool,
 }
 
@@ -42,12 +42,19 @@ pub fn copied(alloc: Global, name: &Name) -> Result<Name, NoMemory>
     Name::new(alloc, name.text())
 }
 
-/// The same, of a name that may be none.
-pub fn name_of(alloc: Global, name: Option<&Name>) -> Result<Option<Name>, NoMemory>
+/// The same, in memory of its own.
+pub fn boxed(alloc: Global, name: &Name) -> Result<Boxed<Name>, NoMemory>
+    ensures { IfOk result (λ copy. copy ≡ name.now) }
+{
+    let copy = copied(alloc, name)?;
+    Ok(Boxed::new(alloc, copy)?)
+}
+
+fn name_of(alloc: Global, name: Option<&Name>) -> Result<Option<Boxed<Name>>, NoMemory>
     ensures { IfOk result (λ copy. copy ≡ option_copied name.entry) }
 {
     match name {
-        Some(name) => Ok(Some(copied(alloc, name)?)),
+        Some(name) => Ok(Some(boxed(alloc, name)?)),
         None => Ok(None),
     }
 }
@@ -100,18 +107,14 @@ impl Scope {
     }
 
     // Adds a label list of a variable, if it isn't empty.
-    fn add_labels(
-        &mut self,
-        alloc: Global,
-        number: usize,
-        labels: &Items<Name>,
-    ) -> Result<(), NoMemory>
+    fn add_labels(&mut self, alloc: Global, number: usize, labels: &Labels) -> Result<(), NoMemory>
         ensures { OnOk result (self.new ≡ spec.with_labels self.old number labels.now) }
     {
-        if labels.len() == 0 {
+        let labels = labels.as_slice();
+        if labels.is_empty() {
             return Ok(());
         }
-        let copies = copies(alloc, labels.as_slice())?;
+        let copies = copies(alloc, labels)?;
         self.labels.push((number, copies))?;
         Ok(())
     }
@@ -145,7 +148,7 @@ impl Scope {
         }
         self.add_labels(alloc, number, &pattern.labels)?;
         self.declare(alloc, name, false)?;
-        self.vertices.push((number, pattern.at))?;
+        self.vertices.push((short(number)?, pattern.at))?;
         Ok(Some(number))
     }
 
@@ -213,7 +216,7 @@ impl Scope {
         ensures { IfOk result (Gives (spec.after_vertex self.old pattern.now) self.new) }
     {
         match &pattern.name {
-            Some(placed) => self.named_vertex(alloc, placed, pattern),
+            Some(placed) => self.named_vertex(alloc, placed.get(), pattern),
             None => self.add_vertex(alloc, None, pattern),
         }
     }
@@ -222,7 +225,7 @@ impl Scope {
         ensures { IfOk result (Gives (spec.after_edge self.old pattern.now) self.new) }
     {
         match &pattern.name {
-            Some(placed) => self.named_edge(alloc, placed, pattern),
+            Some(placed) => self.named_edge(alloc, placed.get(), pattern),
             None => self.add_edge(alloc, None, pattern),
         }
     }
@@ -245,7 +248,7 @@ impl Scope {
                 target: short(target)?,
             })?;
         }
-        self.links.push((left, right))?;
+        self.links.push((short(left)?, short(right)?))?;
         Ok(())
     }
 

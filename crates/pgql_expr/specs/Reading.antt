@@ -39,7 +39,7 @@ unfoldable pub read_property : Lexeme → Parser Found
 read_property t = do
   take_token
   p ← expect_word
-  pure (found (e.Property t.bytes p.bytes t.at) 0)
+  pure (found (e.Property t.at t.bytes p.bytes) 0)
 
 unfoldable pub read_call : Lexeme → (Placed → ℕ → AstExpr) → Parser Found
 read_call t make = do
@@ -50,17 +50,17 @@ read_call t make = do
 
 -- a name before an opening parenthesis
 abbrev pub opened : Lexeme → Parser Found
-opened t = chosen (is_id t) (read_call t (call_of Id)) (chosen (is_label t) (read_call t (call_of Label)) (pure (found (e.Name t.bytes t.at) 0)))
+opened t = chosen (is_id t) (read_call t (call_of Id)) (chosen (is_label t) (read_call t (call_of Label)) (pure (found (e.Name t.at t.bytes) 0)))
 
 abbrev pub name_by : Kind → Lexeme → Parser Found
 name_by k.Dot t = read_property t
 name_by k.Open t = opened t
-name_by kind t = pure (found (e.Name t.bytes t.at) 0)
+name_by kind t = pure (found (e.Name t.at t.bytes) 0)
 
 unfoldable pub read_name : Lexeme → Parser Found
 read_name t = do
   take_token
-  by_next (pure (found (e.Name t.bytes t.at) 0)) (λ u. name_by u.kind t)
+  by_next (pure (found (e.Name t.at t.bytes) 0)) (λ u. name_by u.kind t)
 
 unfoldable pub read_date : Lexeme → Parser Found
 read_date d = do
@@ -74,7 +74,7 @@ next_operator level None = None
 next_operator level (Some t) = operator level t.kind
 
 abbrev pub named : Lexeme → Parser Found
-named t = by_next (pure (found (e.Name t.bytes t.at) 0)) (λ u. name_by u.kind t)
+named t = by_next (pure (found (e.Name t.at t.bytes) 0)) (λ u. name_by u.kind t)
 
 -- a primary without parentheses
 abbrev pub leaf_by : Kind → Lexeme → Parser Found
@@ -142,7 +142,7 @@ module _ (most : ℕ) (inner : Level → Parser Found) where
   read_sign = by_next (refuse unexpected) (λ t. sign_by t.kind t)
 
   abbrev pub joined : Op → ℕ → Found → Found → Found
-  joined op at left right = found (e.Binary op left.expr right.expr at) (max left.height right.height + 1)
+  joined op at left right = found (e.Binary op at left.expr right.expr) (max left.height right.height + 1)
 
   abbrev pub goes_by : Found → (Op → Parser Found) → Option Op → Parser Found
   goes_by left next None = pure left

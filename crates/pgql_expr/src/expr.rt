@@ -77,7 +77,7 @@ fn binary(
     right: AstExpr,
     height: u32,
 ) -> Result<Found, Stop>
-    ensures made { Makes (spec.found (AstExpr.Binary op left right at) height) result }
+    ensures made { Makes (spec.found (AstExpr.Binary op at left right) height) result }
     ensures high { IfOk result (λ x. x.height ≡ height) }
 {
     Ok(Found {
@@ -95,7 +95,7 @@ fn binary(
 fn joined(alloc: Global, op: Op, at: u32, left: Found, right: Found) -> Result<Found, Stop>
     requires left_low { left.height + 1 < 2 ^ 32 }
     requires right_low { right.height + 1 < 2 ^ 32 }
-    ensures made { Makes (spec.found (AstExpr.Binary op left.expr right.expr at) (max left.height right.height + 1)) result }
+    ensures made { Makes (spec.found (AstExpr.Binary op at left.expr right.expr) (max left.height right.height + 1)) result }
     ensures high { IfOk result (λ x. x.height ≡ max left.height right.height + 1) }
 {
     let height = left.height.max(right.height) + 1;

@@ -10,6 +10,7 @@ ghost use Rattle.pgql_lexemes.specs.declared.kind.Kind.TheVariants as kind;
 use crate::found::Found;
 use pgql_lexemes::{Input, Kind, Lexeme, Stop};
 use pgql_tree::{AstExpr, Placed};
+use sqlite_items::Boxed;
 use std::alloc::Global;
 
 /// The functions of one variable.
@@ -28,7 +29,7 @@ fn leaf_of(expr: AstExpr) -> Found
 /// The name alone.
 fn plain(alloc: Global, t: Lexeme<'_>) -> Result<Found, Stop>
     requires { is_word t.kind ≡ true }
-    ensures made { Makes (spec.found (AstExpr.Name (told t.entry).bytes (told t.entry).at) 0) result }
+    ensures made { Makes (spec.found (AstExpr.Name (told t.entry).at (told t.entry).bytes) 0) result }
     ensures low { IfOk result (λ x. x.height ≡ 0) }
 {
     Ok(leaf_of(AstExpr::Name {
@@ -41,13 +42,13 @@ fn plain(alloc: Global, t: Lexeme<'_>) -> Result<Found, Stop>
 fn property_of(alloc: Global, t: Lexeme<'_>, p: Lexeme<'_>) -> Result<Found, Stop>
     requires variable { is_word t.kind ≡ true }
     requires property { is_word p.kind ≡ true }
-    ensures made { Makes (spec.found (AstExpr.Property (told t.entry).bytes (told p.entry).bytes (told t.entry).at) 0) result }
+    ensures made { Makes (spec.found (AstExpr.Property (told t.entry).at (told t.entry).bytes (told p.entry).bytes) 0) result }
     ensures low { IfOk result (λ x. x.height ≡ 0) }
 {
-    let variable = t.name(alloc)?;
+    let variable = t.boxed_name(alloc)?;
     Ok(leaf_of(AstExpr::Property {
         variable,
-        property: p.name(alloc)?,
+        property: p.boxed_name(alloc)?,
         at: t.at,
     }))
 }
@@ -65,7 +66,7 @@ fn property(alloc: Global, input: &mut Input<'_>, t: Lexeme<'_>) -> Result<Found
 }
 
 /// What the call of a function stands for.
-fn call_of(function: Function, variable: Placed, at: u32) -> AstExpr
+fn call_of(function: Function, variable: Boxed<Placed>, at: u32) -> AstExpr
     ensures { result ≡ spec.call_of function variable at }
 {
     match function {

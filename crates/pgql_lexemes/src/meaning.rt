@@ -8,8 +8,8 @@ ghost use Rattle.pgql_lexemes.specs.declared.kind.Kind.TheVariants as kind;
 use crate::lexeme::Lexeme;
 use crate::literal::{undoubled, value_of_digits};
 use adfs_base::{Name, NoMemory};
-use pgql_tree::Placed;
-use sqlite_items::Items;
+use pgql_tree::{Content, Placed};
+use sqlite_items::Boxed;
 use std::alloc::{AllocError, Global};
 
 impl<'a> Lexeme<'a> {
@@ -25,14 +25,24 @@ impl<'a> Lexeme<'a> {
     }
 
     /// The word as a name with its place.
-    pub fn placed(self, alloc: Global) -> Result<Placed, NoMemory>
+    pub fn placed(self, alloc: Global) -> Result<Boxed<Placed>, NoMemory>
         requires { spec.is_word self.kind ≡ true }
         ensures { IfOk result (λ p. p ≡ spec.placed (told self.entry)) }
     {
-        Ok(Placed {
+        let placed = Placed {
             name: self.name(alloc)?,
             at: self.at,
-        })
+        };
+        Ok(Boxed::new(alloc, placed)?)
+    }
+
+    /// The word as a name in memory of its own.
+    pub fn boxed_name(self, alloc: Global) -> Result<Boxed<Name>, NoMemory>
+        requires { spec.is_word self.kind ≡ true }
+        ensures { IfOk result (λ name. name ≡ (told self.entry).bytes) }
+    {
+        let name = self.name(alloc)?;
+        Ok(Boxed::new(alloc, name)?)
     }
 
     /// Whether the word is `id`, in any case.
@@ -59,10 +69,11 @@ impl<'a> Lexeme<'a> {
     }
 
     /// The content of the literal.
-    pub fn content(self, alloc: Global) -> Result<Items<u8>, AllocError>
+    pub fn content(self, alloc: Global) -> Result<Content, AllocError>
         requires { self.kind ≡ kind.Text }
         ensures { IfOk result (λ content. content ≡ spec.content_of (told self.entry)) }
     {
-        undoubled(alloc, &self.bytes[1..self.bytes.len() - 1])
+        let content = undoubled(alloc, &self.bytes[1..self.bytes.len() - 1])?;
+        Content::new(alloc, content)
     }
 }

@@ -1,5 +1,6 @@
 pub mod AnyOrder
 pub mod ByAssignment
+pub mod ByKeys
 pub mod Extensions
 pub mod Matches
 pub mod Once

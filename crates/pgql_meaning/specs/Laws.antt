@@ -1,13 +1,16 @@
 -- What the definitions of an answer come to.
-use Rattle.std.specs.Prelude.{◌≡◌, ◌≢◌, ◌<◌, ◌↔◌, ℕ, All, List, [], ◌∷◌, None, map, true, false}
+use Rattle.std.specs.Prelude.{◌≡◌, ◌≢◌, ◌<◌, ◌↔◌, ℕ, All, List, [], ◌∷◌, None, map, true, false, if◌then◌else◌}
 use Rattle.std.specs.List.{AllPairs, Contains, IsDistinct}
 use Rattle.std.specs.List.Sorted.{IsStrictlySortedBy}
+use Rattle.std.specs.Ordering.{ordering_then}
 use Rattle.std.specs.Str.{bytes_eq}
+use Rattle.std.specs.declared.cmp.Ordering.{Ordering}
+use Rattle.adfs_base.specs.declared.value.Value.{Value}
 use Rattle.answer_rows.specs.Arranged.{limited}
-use Rattle.answer_rows.specs.Orders.{numbers_order}
+use Rattle.answer_rows.specs.Orders.{keys_order, numbers_order, row_order}
 use Rattle.graph_tables.specs.Graph.{PropertyGraph}
 use Rattle.typed_query.specs.declared.query.Query.{Query}
-use Rattle.pgql_meaning.specs.Answer.{all_matches, answer_of, row_of}
+use Rattle.pgql_meaning.specs.Answer.{all_matches, answer_of, order_of, row_of}
 use Rattle.pgql_meaning.specs.Assignments.{ranges_of}
 use Rattle.pgql_meaning.specs.Fits.{fits}
 use Rattle.pgql_meaning.specs.Shown.{HasMeaning, HasShown}
@@ -32,6 +35,24 @@ MatchesFit = (texts : List (List ℕ)) (graph : PropertyGraph) (query : Query) (
 -- each assignment stands once among the matches, in ascending lexicographic order
 abbrev pub MatchesAscend : Type 0
 MatchesAscend = (texts : List (List ℕ)) (graph : PropertyGraph) (query : Query) → IsStrictlySortedBy numbers_order (all_matches texts graph query)
+
+-- which of two assignments stands first: by the order keys, each in its direction, and where those tie by the elements'
+-- numbers, or with DISTINCT by the row
+abbrev pub answer_order : List (List ℕ) → PropertyGraph → Query → List ℕ → List ℕ → Ordering
+answer_order texts graph query a b =
+    ordering_then (keys_order texts (map (λ key. key.1) query.keys) (order_of texts graph query a) (order_of texts graph query b))
+    (if query.distinct then row_order texts (row_of texts graph query a) (row_of texts graph query b) else numbers_order a b)
+
+-- the rows are those of matches, each of which comes before all that follow it
+pub record Ascend (texts : List (List ℕ)) (graph : PropertyGraph) (query : Query) (rows : List (List Value)) : Type 0 where
+  pub found : List (List ℕ)
+  pub are_matches : All (IsMatch texts graph query) found
+  pub ascend : IsStrictlySortedBy (answer_order texts graph query) found
+  pub rows_are : rows ≡ map (row_of texts graph query) found
+
+-- an answer ascends by its keys, each in its direction, and then by its elements, or with DISTINCT by its rows
+abbrev pub AnswersAscend : Type 0
+AnswersAscend = (texts : List (List ℕ)) (graph : PropertyGraph) (query : Query) → Ascend texts graph query (answer_of texts graph query)
 
 -- without order keys and DISTINCT the rows stand in the order of their assignments
 abbrev pub RowsStandByAssignment : Type 0

@@ -1,5 +1,5 @@
 //! What the definitions of an answer come to.
-ghost use Rattle.pgql_meaning.specs.Laws.{LimitsComeLast, MatchesAscend, MatchesFit, RowsStandByAssignment, RowsStandOnce};
+ghost use Rattle.pgql_meaning.specs.Laws.{AnswersAscend, LimitsComeLast, MatchesAscend, MatchesFit, RowsStandByAssignment, RowsStandOnce};
 
 /// The matches of a query are exactly the assignments that give each variable a number of an element and fit.
 pub fn matches_fit()
@@ -9,6 +9,12 @@ pub fn matches_fit()
 /// Each assignment stands once among the matches, and they ascend.
 pub fn matches_ascend()
     ensures { MatchesAscend }
+{}
+
+/// The rows of an answer are those of matches, each of which comes before all that follow it: by the order keys, each in
+/// its direction, and where those tie by the numbers of its elements, or with DISTINCT by its row.
+pub fn answers_ascend()
+    ensures { AnswersAscend }
 {}
 
 /// Without order keys and DISTINCT the rows stand in the order of their assignments.

@@ -31,13 +31,13 @@ pub spelled-Bool : (w : Bool) (at : ℕ) (p : Level) → spelled (e.Bool w at) p
 unfolding spelled
 spelled-Bool w at p = ap (λ x. fold-AstExpr (Level → List ℕ) spelled_step x p) (sym (e.rolls-Bool w at)) ∙ ap (λ f. f p) (fold-roll-AstExpr (Level → List ℕ) spelled_step (AstExpr-F.Bool w at))
 
-pub spelled-Name : (n : List ℕ) (at : ℕ) (p : Level) → spelled (e.Name n at) p ≡ n
+pub spelled-Name : (n : List ℕ) (at : ℕ) (p : Level) → spelled (e.Name at n) p ≡ n
 unfolding spelled
-spelled-Name n at p = ap (λ x. fold-AstExpr (Level → List ℕ) spelled_step x p) (sym (e.rolls-Name n at)) ∙ ap (λ f. f p) (fold-roll-AstExpr (Level → List ℕ) spelled_step (AstExpr-F.Name n at))
+spelled-Name n at p = ap (λ x. fold-AstExpr (Level → List ℕ) spelled_step x p) (sym (e.rolls-Name at n)) ∙ ap (λ f. f p) (fold-roll-AstExpr (Level → List ℕ) spelled_step (AstExpr-F.Name at n))
 
-pub spelled-Property : (v : List ℕ) (p : List ℕ) (at : ℕ) (q : Level) → spelled (e.Property v p at) q ≡ v ++ (codes "." ++ p)
+pub spelled-Property : (v : List ℕ) (p : List ℕ) (at : ℕ) (q : Level) → spelled (e.Property at v p) q ≡ v ++ (codes "." ++ p)
 unfolding spelled
-spelled-Property v p at q = ap (λ x. fold-AstExpr (Level → List ℕ) spelled_step x q) (sym (e.rolls-Property v p at)) ∙ ap (λ f. f q) (fold-roll-AstExpr (Level → List ℕ) spelled_step (AstExpr-F.Property v p at))
+spelled-Property v p at q = ap (λ x. fold-AstExpr (Level → List ℕ) spelled_step x q) (sym (e.rolls-Property at v p)) ∙ ap (λ f. f q) (fold-roll-AstExpr (Level → List ℕ) spelled_step (AstExpr-F.Property at v p))
 
 pub spelled-Id : (v : Placed) (at : ℕ) (p : Level) → spelled (e.Id v at) p ≡ codes "id(" ++ (v.name ++ codes ")")
 unfolding spelled
@@ -59,9 +59,9 @@ pub spelled-IsNull : (x : AstExpr) (w : Bool) (at : ℕ) (p : Level) → spelled
 unfolding spelled
 spelled-IsNull x w at p = ap (λ x. fold-AstExpr (Level → List ℕ) spelled_step x p) (sym (e.rolls-IsNull x w at)) ∙ ap (λ f. f p) (fold-roll-AstExpr (Level → List ℕ) spelled_step (AstExpr-F.IsNull x w at))
 
-pub spelled-Binary : (o : Op) (l : AstExpr) (r : AstExpr) (at : ℕ) (p : Level) → spelled (e.Binary o l r at) p ≡ wrapped p (level_of o) (spelled l (left_of o) ++ (sign_of o ++ spelled r (tighter (level_of o))))
+pub spelled-Binary : (o : Op) (l : AstExpr) (r : AstExpr) (at : ℕ) (p : Level) → spelled (e.Binary o at l r) p ≡ wrapped p (level_of o) (spelled l (left_of o) ++ (sign_of o ++ spelled r (tighter (level_of o))))
 unfolding spelled
-spelled-Binary o l r at p = ap (λ x. fold-AstExpr (Level → List ℕ) spelled_step x p) (sym (e.rolls-Binary o l r at)) ∙ ap (λ f. f p) (fold-roll-AstExpr (Level → List ℕ) spelled_step (AstExpr-F.Binary o l r at))
+spelled-Binary o l r at p = ap (λ x. fold-AstExpr (Level → List ℕ) spelled_step x p) (sym (e.rolls-Binary o at l r)) ∙ ap (λ f. f p) (fold-roll-AstExpr (Level → List ℕ) spelled_step (AstExpr-F.Binary o at l r))
 
 pub own-Int : (n : ℤ) (at : ℕ) → own_level (e.Int n at) ≡ Primary
 unfolding own_level
@@ -79,13 +79,13 @@ pub own-Bool : (w : Bool) (at : ℕ) → own_level (e.Bool w at) ≡ Primary
 unfolding own_level
 own-Bool w at = ap own_by (e.outs-Bool w at)
 
-pub own-Name : (n : List ℕ) (at : ℕ) → own_level (e.Name n at) ≡ Primary
+pub own-Name : (n : List ℕ) (at : ℕ) → own_level (e.Name at n) ≡ Primary
 unfolding own_level
-own-Name n at = ap own_by (e.outs-Name n at)
+own-Name n at = ap own_by (e.outs-Name at n)
 
-pub own-Property : (v : List ℕ) (p : List ℕ) (at : ℕ) → own_level (e.Property v p at) ≡ Primary
+pub own-Property : (v : List ℕ) (p : List ℕ) (at : ℕ) → own_level (e.Property at v p) ≡ Primary
 unfolding own_level
-own-Property v p at = ap own_by (e.outs-Property v p at)
+own-Property v p at = ap own_by (e.outs-Property at v p)
 
 pub own-Id : (v : Placed) (at : ℕ) → own_level (e.Id v at) ≡ Primary
 unfolding own_level
@@ -107,9 +107,9 @@ pub own-IsNull : (x : AstExpr) (w : Bool) (at : ℕ) → own_level (e.IsNull x w
 unfolding own_level
 own-IsNull x w at = ap own_by (e.outs-IsNull x w at)
 
-pub own-Binary : (o : Op) (l : AstExpr) (r : AstExpr) (at : ℕ) → own_level (e.Binary o l r at) ≡ level_of o
+pub own-Binary : (o : Op) (l : AstExpr) (r : AstExpr) (at : ℕ) → own_level (e.Binary o at l r) ≡ level_of o
 unfolding own_level
-own-Binary o l r at = ap own_by (e.outs-Binary o l r at)
+own-Binary o l r at = ap own_by (e.outs-Binary o at l r)
 
 not_looser : (n : ℕ) → nat_lt n n ≡ false
 not_looser n = grind (arith, nat_tests)
@@ -136,11 +136,11 @@ alone-Date c at = spelled-Date c at (own_level (e.Date c at))
 pub alone-Bool : (w : Bool) (at : ℕ) → spelled (e.Bool w at) (own_level (e.Bool w at)) ≡ truth w
 alone-Bool w at = spelled-Bool w at (own_level (e.Bool w at))
 
-pub alone-Name : (n : List ℕ) (at : ℕ) → spelled (e.Name n at) (own_level (e.Name n at)) ≡ n
-alone-Name n at = spelled-Name n at (own_level (e.Name n at))
+pub alone-Name : (n : List ℕ) (at : ℕ) → spelled (e.Name at n) (own_level (e.Name at n)) ≡ n
+alone-Name n at = spelled-Name n at (own_level (e.Name at n))
 
-pub alone-Property : (v : List ℕ) (p : List ℕ) (at : ℕ) → spelled (e.Property v p at) (own_level (e.Property v p at)) ≡ v ++ (codes "." ++ p)
-alone-Property v p at = spelled-Property v p at (own_level (e.Property v p at))
+pub alone-Property : (v : List ℕ) (p : List ℕ) (at : ℕ) → spelled (e.Property at v p) (own_level (e.Property at v p)) ≡ v ++ (codes "." ++ p)
+alone-Property v p at = spelled-Property v p at (own_level (e.Property at v p))
 
 pub alone-Id : (v : Placed) (at : ℕ) → spelled (e.Id v at) (own_level (e.Id v at)) ≡ codes "id(" ++ (v.name ++ codes ")")
 alone-Id v at = spelled-Id v at (own_level (e.Id v at))
@@ -157,8 +157,8 @@ alone-Neg x at = ap (spelled (e.Neg x at)) (own-Neg x at) ∙ spelled-Neg x at S
 pub alone-IsNull : (x : AstExpr) (w : Bool) (at : ℕ) → spelled (e.IsNull x w at) (own_level (e.IsNull x w at)) ≡ spelled x Sum ++ null_test w
 alone-IsNull x w at = ap (spelled (e.IsNull x w at)) (own-IsNull x w at) ∙ spelled-IsNull x w at Test
 
-pub alone-Binary : (o : Op) (l : AstExpr) (r : AstExpr) (at : ℕ) → spelled (e.Binary o l r at) (own_level (e.Binary o l r at)) ≡ spelled l (left_of o) ++ (sign_of o ++ spelled r (tighter (level_of o)))
-alone-Binary o l r at = ap (spelled (e.Binary o l r at)) (own-Binary o l r at) ∙ spelled-Binary o l r at (level_of o)
+pub alone-Binary : (o : Op) (l : AstExpr) (r : AstExpr) (at : ℕ) → spelled (e.Binary o at l r) (own_level (e.Binary o at l r)) ≡ spelled l (left_of o) ++ (sign_of o ++ spelled r (tighter (level_of o)))
+alone-Binary o l r at = ap (spelled (e.Binary o at l r)) (own-Binary o l r at) ∙ spelled-Binary o l r at (level_of o)
     ∙ ap (λ b. wrapped_by b (spelled l (left_of o) ++ (sign_of o ++ spelled r (tighter (level_of o))))) (not_looser (rank (level_of o)))
 
 leaf_is : (x : AstExpr) (p : Level) (text : List ℕ) → own_level x ≡ Primary → spelled x p ≡ text → spelled x (own_level x) ≡ text → spelled x p ≡ wrapped p (own_level x) (spelled x (own_level x))
@@ -175,14 +175,14 @@ spelled_is x p = by_which x (which x)
     by_which _ (is_Text c at) = leaf_is (e.Text c at) p (quoted c) (own-Text c at) (spelled-Text c at p) (alone-Text c at)
     by_which _ (is_Date c at) = leaf_is (e.Date c at) p (codes "DATE " ++ quoted c) (own-Date c at) (spelled-Date c at p) (alone-Date c at)
     by_which _ (is_Bool w at) = leaf_is (e.Bool w at) p (truth w) (own-Bool w at) (spelled-Bool w at p) (alone-Bool w at)
-    by_which _ (is_Name n at) = leaf_is (e.Name n at) p (n) (own-Name n at) (spelled-Name n at p) (alone-Name n at)
-    by_which _ (is_Property v q at) = leaf_is (e.Property v q at) p (v ++ (codes "." ++ q)) (own-Property v q at) (spelled-Property v q at p) (alone-Property v q at)
+    by_which _ (is_Name n at) = leaf_is (e.Name at n) p (n) (own-Name n at) (spelled-Name n at p) (alone-Name n at)
+    by_which _ (is_Property v q at) = leaf_is (e.Property at v q) p (v ++ (codes "." ++ q)) (own-Property v q at) (spelled-Property v q at p) (alone-Property v q at)
     by_which _ (is_Id v at) = leaf_is (e.Id v at) p (codes "id(" ++ (v.name ++ codes ")")) (own-Id v at) (spelled-Id v at p) (alone-Id v at)
     by_which _ (is_Label v at) = leaf_is (e.Label v at) p (codes "label(" ++ (v.name ++ codes ")")) (own-Label v at) (spelled-Label v at p) (alone-Label v at)
     by_which _ (is_Not x at) = node_is (e.Not x at) p Not (codes "NOT " ++ spelled x Not) (own-Not x at) (spelled-Not x at p) (alone-Not x at)
     by_which _ (is_Neg x at) = node_is (e.Neg x at) p Sign (codes "-" ++ spelled x Sign) (own-Neg x at) (spelled-Neg x at p) (alone-Neg x at)
     by_which _ (is_IsNull x w at) = node_is (e.IsNull x w at) p Test (spelled x Sum ++ null_test w) (own-IsNull x w at) (spelled-IsNull x w at p) (alone-IsNull x w at)
-    by_which _ (is_Binary o l r at) = node_is (e.Binary o l r at) p (level_of o) (spelled l (left_of o) ++ (sign_of o ++ spelled r (tighter (level_of o)))) (own-Binary o l r at) (spelled-Binary o l r at p) (alone-Binary o l r at)
+    by_which _ (is_Binary o l r at) = node_is (e.Binary o at l r) p (level_of o) (spelled l (left_of o) ++ (sign_of o ++ spelled r (tighter (level_of o)))) (own-Binary o l r at) (spelled-Binary o l r at p) (alone-Binary o l r at)
 
 pub with_parentheses : (x : AstExpr) (p : Level) → is_looser p (own_level x) ≡ true → spelled x p ≡ codes "(" ++ (spelled x (own_level x) ++ codes ")")
 with_parentheses x p t = spelled_is x p ∙ ap (λ b. wrapped_by b (spelled x (own_level x))) t

@@ -99,14 +99,14 @@ spelled_step (AstExpr-F.Int number at) place = signed_decimal number
 spelled_step (AstExpr-F.Text content at) place = quoted content
 spelled_step (AstExpr-F.Date content at) place = codes "DATE " ++ quoted content
 spelled_step (AstExpr-F.Bool value at) place = truth value
-spelled_step (AstExpr-F.Name name at) place = name
-spelled_step (AstExpr-F.Property variable property at) place = variable ++ (codes "." ++ property)
+spelled_step (AstExpr-F.Name at name) place = name
+spelled_step (AstExpr-F.Property at variable property) place = variable ++ (codes "." ++ property)
 spelled_step (AstExpr-F.Id variable at) place = codes "id(" ++ (variable.name ++ codes ")")
 spelled_step (AstExpr-F.Label variable at) place = codes "label(" ++ (variable.name ++ codes ")")
 spelled_step (AstExpr-F.Not x at) place = wrapped place Not (codes "NOT " ++ x Not)
 spelled_step (AstExpr-F.Neg x at) place = wrapped place Sign (codes "-" ++ x Sign)
 spelled_step (AstExpr-F.IsNull x negated at) place = wrapped place Test (x Sum ++ null_test negated)
-spelled_step (AstExpr-F.Binary o l r at) place = wrapped place (level_of o) (l (left_of o) ++ (sign_of o ++ r (tighter (level_of o))))
+spelled_step (AstExpr-F.Binary o at l r) place = wrapped place (level_of o) (l (left_of o) ++ (sign_of o ++ r (tighter (level_of o))))
 
 -- an expression at a place that needs this level
 unfoldable pub spelled : AstExpr → Level → List ℕ
@@ -116,7 +116,7 @@ abbrev pub own_by : AstExpr-F AstExpr → Level
 own_by (AstExpr-F.Not x at) = Not
 own_by (AstExpr-F.Neg x at) = Sign
 own_by (AstExpr-F.IsNull x negated at) = Test
-own_by (AstExpr-F.Binary o l r at) = level_of o
+own_by (AstExpr-F.Binary o at l r) = level_of o
 own_by leaf = Primary
 
 -- how tightly an expression binds

@@ -9,6 +9,7 @@ use crate::written::{Written, put_between, put_each};
 use adfs_base::{Name, NoMemory};
 use itoa::Buffer;
 use pgql_tree::{Ast, AstExpr, EdgePat, Item, Key, Level, Path, Placed, VertexPat};
+use sqlite_items::Boxed;
 use std::alloc::{AllocError, Global};
 
 impl Written for Name {
@@ -30,17 +31,21 @@ fn put_labels(out: &mut Vec<u8>, labels: &[Name]) -> Result<(), AllocError>
     Ok(())
 }
 
-fn put_name_or_none(out: &mut Vec<u8>, name: &Option<Placed>) -> Result<(), AllocError>
+fn put_name_or_none(out: &mut Vec<u8>, name: &Option<Boxed<Placed>>) -> Result<(), AllocError>
     ensures { OnOk result (out.new.items ≡ out.old.items ++ spec.name_or_none name.now) }
 {
     match name {
         None => Ok(()),
-        Some(placed) => put_name(out, &placed.name),
+        Some(placed) => put_name(out, &placed.get().name),
     }
 }
 
 /// What stands inside a vertex or edge pattern.
-fn put_spec(out: &mut Vec<u8>, name: &Option<Placed>, labels: &[Name]) -> Result<(), AllocError>
+fn put_spec(
+    out: &mut Vec<u8>,
+    name: &Option<Boxed<Placed>>,
+    labels: &[Name],
+) -> Result<(), AllocError>
     ensures { OnOk result (out.new.items ≡ out.old.items ++ spec.spec_text name.now labels.now) }
 {
     put_name_or_none(out, name)?;
@@ -121,14 +126,14 @@ impl Written for Path {
     }
 }
 
-fn put_as_name(out: &mut Vec<u8>, name: &Option<Placed>) -> Result<(), AllocError>
+fn put_as_name(out: &mut Vec<u8>, name: &Option<Boxed<Placed>>) -> Result<(), AllocError>
     ensures { OnOk result (out.new.items ≡ out.old.items ++ spec.as_name name.now) }
 {
     match name {
         None => Ok(()),
         Some(placed) => {
             put(out, b" AS ")?;
-            put_name(out, &placed.name)?;
+            put_name(out, &placed.get().name)?;
             Ok(())
         }
     }

@@ -8,7 +8,8 @@ ghost use Rattle.pgql_print.specs.Printing as spec;
 use adfs_base::Name;
 use itoa::Buffer;
 use memchr::memchr;
-use pgql_tree::{AstExpr, Level, Op};
+use pgql_tree::{AstExpr, Level, Op, Placed};
+use sqlite_items::Boxed;
 use std::alloc::AllocError;
 
 pub fn level_of(op: Op) -> Level
@@ -172,21 +173,25 @@ fn put_truth(out: &mut Vec<u8>, truth: bool) -> Result<(), AllocError>
     }
 }
 
-fn put_property(out: &mut Vec<u8>, variable: &Name, property: &Name) -> Result<(), AllocError>
+fn put_property(
+    out: &mut Vec<u8>,
+    variable: &Boxed<Name>,
+    property: &Boxed<Name>,
+) -> Result<(), AllocError>
     ensures { OnOk result (out.new.items ≡ out.old.items ++ (variable.now ++ (codes "." ++ property.now))) }
 {
-    put_name(out, variable)?;
+    put_name(out, variable.get())?;
     put(out, b".")?;
-    put_name(out, property)?;
+    put_name(out, property.get())?;
     Ok(())
 }
 
 /// A name behind a function and its parenthesis.
-fn put_call(out: &mut Vec<u8>, function: &[u8], variable: &Name) -> Result<(), AllocError>
-    ensures { OnOk result (out.new.items ≡ out.old.items ++ (function.now ++ (variable.now ++ codes ")"))) }
+fn put_call(out: &mut Vec<u8>, function: &[u8], variable: &Boxed<Placed>) -> Result<(), AllocError>
+    ensures { OnOk result (out.new.items ≡ out.old.items ++ (function.now ++ (variable.now.name ++ codes ")"))) }
 {
     put(out, function)?;
-    put_name(out, variable)?;
+    put_name(out, &variable.get().name)?;
     put(out, b")")?;
     Ok(())
 }
@@ -217,8 +222,8 @@ fn put_own(out: &mut Vec<u8>, x: &AstExpr) -> Result<(), AllocError>
             property,
             ..
         } => put_property(out, variable, property),
-        AstExpr::Id { variable, .. } => put_call(out, b"id(", &variable.name),
-        AstExpr::Label { variable, .. } => put_call(out, b"label(", &variable.name),
+        AstExpr::Id { variable, .. } => put_call(out, b"id(", variable),
+        AstExpr::Label { variable, .. } => put_call(out, b"label(", variable),
         AstExpr::Not { inside, .. } => {
             put(out, b"NOT ")?;
             put_expr(out, inside.get(), Level::Not)

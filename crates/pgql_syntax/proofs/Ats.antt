@@ -23,13 +23,13 @@ pub at-Bool : (b : Bool) (at : ℕ) → at_of (e.Bool b at) ≡ at
 unfolding at_of
 at-Bool b at = ap at_by (e.outs-Bool b at)
 
-pub at-Name : (n : List ℕ) (at : ℕ) → at_of (e.Name n at) ≡ at
+pub at-Name : (n : List ℕ) (at : ℕ) → at_of (e.Name at n) ≡ at
 unfolding at_of
-at-Name n at = ap at_by (e.outs-Name n at)
+at-Name n at = ap at_by (e.outs-Name at n)
 
-pub at-Property : (v p : List ℕ) (at : ℕ) → at_of (e.Property v p at) ≡ at
+pub at-Property : (v p : List ℕ) (at : ℕ) → at_of (e.Property at v p) ≡ at
 unfolding at_of
-at-Property v p at = ap at_by (e.outs-Property v p at)
+at-Property v p at = ap at_by (e.outs-Property at v p)
 
 pub at-Id : (v : Placed) (at : ℕ) → at_of (e.Id v at) ≡ at
 unfolding at_of
@@ -51,6 +51,6 @@ pub at-IsNull : (x : AstExpr) (n : Bool) (at : ℕ) → at_of (e.IsNull x n at) 
 unfolding at_of
 at-IsNull x n at = ap at_by (e.outs-IsNull x n at)
 
-pub at-Binary : (o : Op) (l r : AstExpr) (at : ℕ) → at_of (e.Binary o l r at) ≡ at
+pub at-Binary : (o : Op) (l r : AstExpr) (at : ℕ) → at_of (e.Binary o at l r) ≡ at
 unfolding at_of
-at-Binary o l r at = ap at_by (e.outs-Binary o l r at)
+at-Binary o l r at = ap at_by (e.outs-Binary o at l r)

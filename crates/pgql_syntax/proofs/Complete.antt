@@ -216,7 +216,7 @@ joins : (level : Level) (m h j n hr : ℕ) (a b : List Lexeme) (t : Lexeme) (op 
     → got ≡ more (suc m) (read_expr m) level (place (a ++ (t ∷ b ++ rest))) n (found left h) (t ∷ b ++ rest)
     → read_expr m (tighter level) (b ++ rest) ≡ Ok (found right hr, rest)
     → (h' : ℕ) × (n' : ℕ) × (h' ≤ suc j) × (suc m ≤ h' + n')
-    × (got ≡ more (suc m) (read_expr m) level (place ((a ++ t ∷ b) ++ rest)) n' (found (e.Binary op left right (place (a ++ t ∷ b))) h') rest)
+    × (got ≡ more (suc m) (read_expr m) level (place ((a ++ t ∷ b) ++ rest)) n' (found (e.Binary op (place (a ++ t ∷ b)) left right) h') rest)
 joins level m h j zero hr a b t op left right rest got o le jm fuel le' p x r = absurd (omega arith)
 joins level m h j (suc n) hr a b t op left right rest got o le jm fuel le' p x r = (
   max h hr + 1,
@@ -227,8 +227,8 @@ joins level m h j (suc n) hr a b t op left right rest got o le jm fuel le' p x r
       let same : at ≡ place ((a ++ t ∷ b) ++ rest) = ap place (sym (append_assoc a (t ∷ b) rest)) in
       let goes = more_goes m level at n (found left h) t (b ++ rest) op (found right hr) rest o (omega arith) r in
       let P : ℕ → Type 0 = λ v. more (suc m) (read_expr m) level at n (joined (suc m) (read_expr m) op at (found left h) (found right hr)) rest
-      ≡ more (suc m) (read_expr m) level v n (found (e.Binary op left right (place (a ++ t ∷ b))) (max h hr + 1)) rest in
-      let whole : P at = ap (λ v. more (suc m) (read_expr m) level at n (found (e.Binary op left right v) (max h hr + 1)) rest) (same ∙ p) in
+      ≡ more (suc m) (read_expr m) level v n (found (e.Binary op (place (a ++ t ∷ b)) left right) (max h hr + 1)) rest in
+      let whole : P at = ap (λ v. more (suc m) (read_expr m) level at n (found (e.Binary op v left right) (max h hr + 1)) rest) (same ∙ p) in
       x ∙ goes ∙ subst P same whole),
 )
 
@@ -385,7 +385,7 @@ starts (g.parentheses o c ts p d q) = starts_as Primary k.Open o (ts ++ c ∷ []
 
 -- ---- primaries
 
-name_ends : (kind : Kind) (t : Lexeme) (ts : List Lexeme) → stops Primary kind ≡ true → name_by kind t ts ≡ Ok (found (e.Name t.bytes t.at) 0, ts)
+name_ends : (kind : Kind) (t : Lexeme) (ts : List Lexeme) → stops Primary kind ≡ true → name_by kind t ts ≡ Ok (found (e.Name t.at t.bytes) 0, ts)
 name_ends k.Dot t ts s = cc
 name_ends k.Open t ts s = cc
 name_ends kind t ts s = refl
@@ -393,14 +393,14 @@ name_ends kind t ts s = refl
 by_primary : (m : ℕ) (kind : Kind) (t : Lexeme) (ts : List Lexeme) → t.kind ≡ kind → read_expr m Primary (t ∷ ts) ≡ primary_by m (nested m) kind t (t ∷ ts)
 by_primary m kind t ts p = primary_is m (t ∷ ts) ∙ ap (λ v. primary_by m (nested m) v t (t ∷ ts)) p
 
-name_alone : (t : Lexeme) (rest : List Lexeme) → Stops Primary rest → read_name t (t ∷ rest) ≡ Ok (found (e.Name t.bytes t.at) 0, rest)
+name_alone : (t : Lexeme) (rest : List Lexeme) → Stops Primary rest → read_name t (t ∷ rest) ≡ Ok (found (e.Name t.at t.bytes) 0, rest)
 unfolding read_name
 name_alone t [] s = refl
 name_alone t (u ∷ us) s = name_ends u.kind t (u ∷ us) s
 
-property_goes : (t dot p : Lexeme) (rest : List Lexeme) → dot.kind ≡ k.Dot → is_word p.kind ≡ true → read_name t (t ∷ dot ∷ p ∷ rest) ≡ Ok (found (e.Property t.bytes p.bytes t.at) 0, rest)
+property_goes : (t dot p : Lexeme) (rest : List Lexeme) → dot.kind ≡ k.Dot → is_word p.kind ≡ true → read_name t (t ∷ dot ∷ p ∷ rest) ≡ Ok (found (e.Property t.at t.bytes p.bytes) 0, rest)
 unfolding read_name read_property expect_word
-property_goes t dot p rest d w = ap (λ v. name_by v t (dot ∷ p ∷ rest)) d ∙ ap (λ b. and_then (expect_by b (p ∷ rest)) (λ p. pure (found (e.Property t.bytes p.bytes t.at) 0))) w
+property_goes t dot p rest d w = ap (λ v. name_by v t (dot ∷ p ∷ rest)) d ∙ ap (λ b. and_then (expect_by b (p ∷ rest)) (λ p. pure (found (e.Property t.at t.bytes p.bytes) 0))) w
 
 call_goes : (make : Placed → ℕ → AstExpr) (t o v c : Lexeme) (rest : List Lexeme) → v.kind ≡ k.Name → c.kind ≡ k.Close
     → read_call t make (o ∷ v ∷ c ∷ rest) ≡ Ok (found (make (record { name = v.bytes; at = v.at }) t.at) 0, rest)
@@ -409,7 +409,7 @@ call_goes make t o v c rest p q =
     expect_goes k.Name v (c ∷ rest) (λ v. expect k.Close >> pure (found (make (record { name = v.bytes; at = v.at }) t.at) 0)) p
     ∙ expect_goes k.Close c rest (λ _. pure (found (make (record { name = v.bytes; at = v.at }) t.at) 0)) q
 
-opened : (t o : Lexeme) (ts : List Lexeme) → o.kind ≡ k.Open → read_name t (t ∷ o ∷ ts) ≡ chosen (is_id t) (read_call t e.Id) (chosen (is_label t) (read_call t e.Label) (pure (found (e.Name t.bytes t.at) 0))) (o ∷ ts)
+opened : (t o : Lexeme) (ts : List Lexeme) → o.kind ≡ k.Open → read_name t (t ∷ o ∷ ts) ≡ chosen (is_id t) (read_call t e.Id) (chosen (is_label t) (read_call t e.Label) (pure (found (e.Name t.at t.bytes) 0))) (o ∷ ts)
 unfolding read_name
 opened t o ts p = ap (λ v. name_by v t (o ∷ ts)) p
 
@@ -434,14 +434,14 @@ label_not_id t l = not_both (is_id t) (λ i. clash (Rattle.std.specs.Str.str_to_
 id_goes : (t o v c : Lexeme) (rest : List Lexeme) → is_id t ≡ true → o.kind ≡ k.Open → v.kind ≡ k.Name → c.kind ≡ k.Close
     → read_name t (t ∷ o ∷ v ∷ c ∷ rest) ≡ Ok (found (e.Id (record { name = v.bytes; at = v.at }) t.at) 0, rest)
 id_goes t o v c rest i p q r = opened t o (v ∷ c ∷ rest) p
-    ∙ ap (λ b. chosen b (read_call t e.Id) (chosen (is_label t) (read_call t e.Label) (pure (found (e.Name t.bytes t.at) 0))) (o ∷ v ∷ c ∷ rest)) i
+    ∙ ap (λ b. chosen b (read_call t e.Id) (chosen (is_label t) (read_call t e.Label) (pure (found (e.Name t.at t.bytes) 0))) (o ∷ v ∷ c ∷ rest)) i
     ∙ call_goes e.Id t o v c rest q r
 
 label_goes : (t o v c : Lexeme) (rest : List Lexeme) → is_label t ≡ true → o.kind ≡ k.Open → v.kind ≡ k.Name → c.kind ≡ k.Close
     → read_name t (t ∷ o ∷ v ∷ c ∷ rest) ≡ Ok (found (e.Label (record { name = v.bytes; at = v.at }) t.at) 0, rest)
 label_goes t o v c rest l p q r = opened t o (v ∷ c ∷ rest) p
-    ∙ ap (λ b. chosen b (read_call t e.Id) (chosen (is_label t) (read_call t e.Label) (pure (found (e.Name t.bytes t.at) 0))) (o ∷ v ∷ c ∷ rest)) (label_not_id t l)
-    ∙ ap (λ b. chosen b (read_call t e.Label) (pure (found (e.Name t.bytes t.at) 0)) (o ∷ v ∷ c ∷ rest)) l
+    ∙ ap (λ b. chosen b (read_call t e.Id) (chosen (is_label t) (read_call t e.Label) (pure (found (e.Name t.at t.bytes) 0))) (o ∷ v ∷ c ∷ rest)) (label_not_id t l)
+    ∙ ap (λ b. chosen b (read_call t e.Label) (pure (found (e.Name t.at t.bytes) 0)) (o ∷ v ∷ c ∷ rest)) l
     ∙ call_goes e.Label t o v c rest q r
 
 date_goes : (d t : Lexeme) (rest : List Lexeme) → t.kind ≡ k.Text → read_date d (d ∷ t ∷ rest) ≡ Ok (found (e.Date (content_of t) d.at) 0, rest)
@@ -551,7 +551,7 @@ reaches (suc m) (g.comparing {h = j} a b t op {left = left} {right = right} l o 
       test_reads (suc m) w.0 left a b t rest w.2
           ∙ test_compares (suc m) (place (a ++ (t ∷ b ++ rest))) (found left w.0) t.kind op (t ∷ b ++ rest) o
           ∙ compared_goes m (place (a ++ (t ∷ b ++ rest))) (found left w.0) op (found right v.0) t (b ++ rest) rest (omega arith) v.2
-          ∙ ap (λ p. Ok (found (e.Binary op left right p) (max w.0 v.0 + 1), rest)) (at_is a b t rest l),
+          ∙ ap (λ p. Ok (found (e.Binary op p left right) (max w.0 v.0 + 1), rest)) (at_is a b t rest l),
     )
 reaches zero (g.is_null a i n d p q) le rest s = absurd (omega arith)
 reaches (suc m) (g.is_null {h = j} a i n {x = x} d p q) le rest s =

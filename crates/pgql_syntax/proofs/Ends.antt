@@ -121,8 +121,8 @@ joined_is m inner level a b t op at left right l o r same =
     let h = max left.height right.height in
     let l' : IsExpr level h a left.expr = higher h l (omega arith) in
     let r' : IsExpr (tighter level) h b right.expr = higher h r (omega arith) in
-    moved level (h + 1) (a ++ t ∷ b) (λ p. e.Binary op left.expr right.expr p) (place (a ++ t ∷ b)) at (place_front l (t ∷ b) ∙ sym same)
-    (up_one level h (a ++ t ∷ b) (e.Binary op left.expr right.expr (place (a ++ t ∷ b))) (g.chain a b t op l' o r'))
+    moved level (h + 1) (a ++ t ∷ b) (λ p. e.Binary op p left.expr right.expr) (place (a ++ t ∷ b)) at (place_front l (t ∷ b) ∙ sym same)
+    (up_one level h (a ++ t ∷ b) (e.Binary op (place (a ++ t ∷ b)) left.expr right.expr) (g.chain a b t op l' o r'))
 
 pub compared_is : (m : ℕ) (inner : Level → Parser Found) (a b : List Lexeme) (t : Lexeme) (op : Op) (at : ℕ) (left right : Found)
     → High Sum a left → comparison t.kind ≡ Some op → High Sum b right → at ≡ place a
@@ -131,8 +131,8 @@ compared_is m inner a b t op at left right l o r same =
     let h = max left.height right.height in
     let l' : IsExpr Sum h a left.expr = higher h l (omega arith) in
     let r' : IsExpr Sum h b right.expr = higher h r (omega arith) in
-    moved Test (h + 1) (a ++ t ∷ b) (λ p. e.Binary op left.expr right.expr p) (place (a ++ t ∷ b)) at (place_front l (t ∷ b) ∙ sym same)
-    (up_one Test h (a ++ t ∷ b) (e.Binary op left.expr right.expr (place (a ++ t ∷ b))) (g.comparing a b t op l' o r'))
+    moved Test (h + 1) (a ++ t ∷ b) (λ p. e.Binary op p left.expr right.expr) (place (a ++ t ∷ b)) at (place_front l (t ∷ b) ∙ sym same)
+    (up_one Test h (a ++ t ∷ b) (e.Binary op (place (a ++ t ∷ b)) left.expr right.expr) (g.comparing a b t op l' o r'))
 
 module _ (m : ℕ) (inner : Level → Parser Found)
     (inner_follows : 0 < m → (level : Level) → Follows (Low level m) (High level) [] (inner level)) where

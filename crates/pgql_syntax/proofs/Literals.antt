@@ -41,13 +41,13 @@ literals-Bool : (w : Bool) (at : ℕ) → literals (e.Bool w at) ≡ []
 unfolding literals
 literals-Bool w at = ap (fold-AstExpr (List (List ℕ)) literals_of) (sym (e.rolls-Bool w at)) ∙ fold-roll-AstExpr (List (List ℕ)) literals_of (AstExpr-F.Bool w at)
 
-literals-Name : (n : List ℕ) (at : ℕ) → literals (e.Name n at) ≡ []
+literals-Name : (n : List ℕ) (at : ℕ) → literals (e.Name at n) ≡ []
 unfolding literals
-literals-Name n at = ap (fold-AstExpr (List (List ℕ)) literals_of) (sym (e.rolls-Name n at)) ∙ fold-roll-AstExpr (List (List ℕ)) literals_of (AstExpr-F.Name n at)
+literals-Name n at = ap (fold-AstExpr (List (List ℕ)) literals_of) (sym (e.rolls-Name at n)) ∙ fold-roll-AstExpr (List (List ℕ)) literals_of (AstExpr-F.Name at n)
 
-literals-Property : (v : List ℕ) (p : List ℕ) (at : ℕ) → literals (e.Property v p at) ≡ []
+literals-Property : (v : List ℕ) (p : List ℕ) (at : ℕ) → literals (e.Property at v p) ≡ []
 unfolding literals
-literals-Property v p at = ap (fold-AstExpr (List (List ℕ)) literals_of) (sym (e.rolls-Property v p at)) ∙ fold-roll-AstExpr (List (List ℕ)) literals_of (AstExpr-F.Property v p at)
+literals-Property v p at = ap (fold-AstExpr (List (List ℕ)) literals_of) (sym (e.rolls-Property at v p)) ∙ fold-roll-AstExpr (List (List ℕ)) literals_of (AstExpr-F.Property at v p)
 
 literals-Id : (v : Placed) (at : ℕ) → literals (e.Id v at) ≡ []
 unfolding literals
@@ -69,9 +69,9 @@ literals-IsNull : (x : AstExpr) (w : Bool) (at : ℕ) → literals (e.IsNull x w
 unfolding literals
 literals-IsNull x w at = ap (fold-AstExpr (List (List ℕ)) literals_of) (sym (e.rolls-IsNull x w at)) ∙ fold-roll-AstExpr (List (List ℕ)) literals_of (AstExpr-F.IsNull x w at)
 
-literals-Binary : (o : Op) (l : AstExpr) (r : AstExpr) (at : ℕ) → literals (e.Binary o l r at) ≡ literals l ++ literals r
+literals-Binary : (o : Op) (l : AstExpr) (r : AstExpr) (at : ℕ) → literals (e.Binary o at l r) ≡ literals l ++ literals r
 unfolding literals
-literals-Binary o l r at = ap (fold-AstExpr (List (List ℕ)) literals_of) (sym (e.rolls-Binary o l r at)) ∙ fold-roll-AstExpr (List (List ℕ)) literals_of (AstExpr-F.Binary o l r at)
+literals-Binary o l r at = ap (fold-AstExpr (List (List ℕ)) literals_of) (sym (e.rolls-Binary o at l r)) ∙ fold-roll-AstExpr (List (List ℕ)) literals_of (AstExpr-F.Binary o at l r)
 
 -- an expression's literals are among its tokens
 no_more : (x : AstExpr) (found : List (List ℕ)) (n : ℕ) → literals x ≡ found → length found ≤ n → length (literals x) ≤ n

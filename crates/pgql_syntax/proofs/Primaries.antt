@@ -52,10 +52,10 @@ module _ (m : ℕ) (inner : Level → Parser Found)
 
   property_says : (t u : Lexeme) (us : List Lexeme) → t.kind ≡ k.Name → u.kind ≡ k.Dot → Says (lo Primary) (High Primary) (t ∷ []) (u ∷ us) (read_property t (u ∷ us))
   unfolding read_property
-  property_says t u us is dot = said-after (lo Primary) (High Primary) (t ∷ []) u us ((expect_word >>= λ p. pure (found (e.Property t.bytes p.bytes t.at) 0)) us)
-      ((Follows-expect_word (lo Primary) (High Primary) (t ∷ u ∷ []) (λ p. pure (found (e.Property t.bytes p.bytes t.at) 0))
-      (k.Name ∷ [], found (e.Property t.bytes name_token.bytes t.at) 0, (g.property t u name_token is dot refl, omega arith))
-      (λ p q. Follows-pure (lo Primary) (High Primary) (t ∷ u ∷ p ∷ []) (found (e.Property t.bytes p.bytes t.at) 0) (g.property t u p is dot q, omega arith))).says us)
+  property_says t u us is dot = said-after (lo Primary) (High Primary) (t ∷ []) u us ((expect_word >>= λ p. pure (found (e.Property t.at t.bytes p.bytes) 0)) us)
+      ((Follows-expect_word (lo Primary) (High Primary) (t ∷ u ∷ []) (λ p. pure (found (e.Property t.at t.bytes p.bytes) 0))
+      (k.Name ∷ [], found (e.Property t.at t.bytes name_token.bytes) 0, (g.property t u name_token is dot refl, omega arith))
+      (λ p q. Follows-pure (lo Primary) (High Primary) (t ∷ u ∷ p ∷ []) (found (e.Property t.at t.bytes p.bytes) 0) (g.property t u p is dot q, omega arith))).says us)
 
   call_says : (make : Placed → ℕ → AstExpr) (t u : Lexeme) (us : List Lexeme)
       → ((v c : Lexeme) → v.kind ≡ k.Name → c.kind ≡ k.Close → IsExpr Primary 0 (t ∷ u ∷ v ∷ c ∷ []) (make (record { name = v.bytes; at = v.at }) t.at))
@@ -70,27 +70,27 @@ module _ (m : ℕ) (inner : Level → Parser Found)
 
   name_says : (t : Lexeme) (ts : List Lexeme) → t.kind ≡ k.Name → Says (lo Primary) (High Primary) [] (t ∷ ts) (read_name t (t ∷ ts))
   unfolding read_name
-  name_says t ts is = said-after (lo Primary) (High Primary) [] t ts (by_next (pure (found (e.Name t.bytes t.at) 0)) (λ u. name_by u.kind t) ts)
-      ((Follows-by_next (lo Primary) (High Primary) (t ∷ []) (pure (found (e.Name t.bytes t.at) 0)) (λ u. name_by u.kind t)
-      (Follows-pure (lo Primary) (High Primary) (t ∷ []) (found (e.Name t.bytes t.at) 0) plain) (λ u us. by_kind u us u.kind refl)).says ts)
+  name_says t ts is = said-after (lo Primary) (High Primary) [] t ts (by_next (pure (found (e.Name t.at t.bytes) 0)) (λ u. name_by u.kind t) ts)
+      ((Follows-by_next (lo Primary) (High Primary) (t ∷ []) (pure (found (e.Name t.at t.bytes) 0)) (λ u. name_by u.kind t)
+      (Follows-pure (lo Primary) (High Primary) (t ∷ []) (found (e.Name t.at t.bytes) 0) plain) (λ u us. by_kind u us u.kind refl)).says ts)
     where
-      plain : Low Primary (suc m) (t ∷ []) (found (e.Name t.bytes t.at) 0)
+      plain : Low Primary (suc m) (t ∷ []) (found (e.Name t.at t.bytes) 0)
       plain = (g.name t is, omega arith)
 
       label_or_name : (u : Lexeme) (us : List Lexeme) → u.kind ≡ k.Open → (b : Bool) → is_label t ≡ b
-          → Says (Low Primary (suc m)) (High Primary) (t ∷ []) (u ∷ us) (chosen b (read_call t e.Label) (pure (found (e.Name t.bytes t.at) 0)) (u ∷ us))
+          → Says (Low Primary (suc m)) (High Primary) (t ∷ []) (u ∷ us) (chosen b (read_call t e.Label) (pure (found (e.Name t.at t.bytes) 0)) (u ∷ us))
       label_or_name u us o true l = call_says e.Label t u us (λ v c q r. g.label t u v c is l o q r)
-      label_or_name u us o false l = said-pure (Low Primary (suc m)) (High Primary) (t ∷ []) (u ∷ us) (found (e.Name t.bytes t.at) 0) plain
+      label_or_name u us o false l = said-pure (Low Primary (suc m)) (High Primary) (t ∷ []) (u ∷ us) (found (e.Name t.at t.bytes) 0) plain
 
       id_or_other : (u : Lexeme) (us : List Lexeme) → u.kind ≡ k.Open → (b : Bool) → is_id t ≡ b
-          → Says (Low Primary (suc m)) (High Primary) (t ∷ []) (u ∷ us) (chosen b (read_call t e.Id) (chosen (is_label t) (read_call t e.Label) (pure (found (e.Name t.bytes t.at) 0))) (u ∷ us))
+          → Says (Low Primary (suc m)) (High Primary) (t ∷ []) (u ∷ us) (chosen b (read_call t e.Id) (chosen (is_label t) (read_call t e.Label) (pure (found (e.Name t.at t.bytes) 0))) (u ∷ us))
       id_or_other u us o true l = call_says e.Id t u us (λ v c q r. g.id t u v c is l o q r)
       id_or_other u us o false l = label_or_name u us o (is_label t) refl
 
       by_kind : (u : Lexeme) (us : List Lexeme) (kind : Kind) → u.kind ≡ kind → Says (Low Primary (suc m)) (High Primary) (t ∷ []) (u ∷ us) (name_by kind t (u ∷ us))
       by_kind u us k.Dot dot = property_says t u us is dot
       by_kind u us k.Open o = id_or_other u us o (is_id t) refl
-      by_kind u us kind x = said-pure (Low Primary (suc m)) (High Primary) (t ∷ []) (u ∷ us) (found (e.Name t.bytes t.at) 0) plain
+      by_kind u us kind x = said-pure (Low Primary (suc m)) (High Primary) (t ∷ []) (u ∷ us) (found (e.Name t.at t.bytes) 0) plain
 
   in_parentheses : (t u : Lexeme) (a : List Lexeme) (x : Found) → t.kind ≡ k.Open → u.kind ≡ k.Close → High Or a x → High Primary (t ∷ a ++ u ∷ []) (found x.expr (x.height + 1))
   in_parentheses t u a x o c d = up_one Primary x.height (t ∷ a ++ u ∷ []) x.expr (g.parentheses t u a o d c)

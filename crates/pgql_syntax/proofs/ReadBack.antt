@@ -333,9 +333,9 @@ at_place {level} {x = x} (inside {h = h} r) = by_test (is_looser level (own_leve
 
 -- an operator between two sides
 binary_back : {h : ℕ} (level left_level right_level : Level) (o : Op) (l r : AstExpr) (at : ℕ)
-    → ((a b : List Lexeme) (t : Lexeme) (l' r' : AstExpr) → t.kind ≡ sign_kind o → IsExpr left_level h a l' → IsExpr right_level h b r' → IsExpr level (suc h) (a ++ t ∷ b) (e.Binary o l' r' (place (a ++ t ∷ b))))
+    → ((a b : List Lexeme) (t : Lexeme) (l' r' : AstExpr) → t.kind ≡ sign_kind o → IsExpr left_level h a l' → IsExpr right_level h b r' → IsExpr level (suc h) (a ++ t ∷ b) (e.Binary o (place (a ++ t ∷ b)) l' r'))
     → ExprReads left_level h l (spelled l left_level) → ExprReads right_level h r (spelled r right_level)
-    → ExprReads level (suc h) (e.Binary o l r at) (spelled l left_level ++ (sign_of o ++ spelled r right_level))
+    → ExprReads level (suc h) (e.Binary o at l r) (spelled l left_level ++ (sign_of o ++ spelled r right_level))
 binary_back {h} level left_level right_level o l r at make x y = record {
   marks = x.marks ++ (sign_kind o, sign_bytes o) ∷ y.marks;
   lexed = lexed_parted x.lexed (sign_parts o (spelled r right_level)) (lexed_before (sign_lexed o) y.lexed);
@@ -346,18 +346,18 @@ binary_back {h} level left_level right_level o l r at make x y = record {
       let w = y.reads t.1 t.5 in
       let same : us ≡ s.0 ++ t.0 ∷ t.1 = s.2 ∙ ap (λ q. s.0 ++ q) t.2 in
       let at' = place (s.0 ++ t.0 ∷ t.1) in
-      as_tokens (IsExpr level (suc h)) bare (e.Binary o l r at) us (s.0 ++ t.0 ∷ t.1) same (
-        e.Binary o v.0 w.0 at',
+      as_tokens (IsExpr level (suc h)) bare (e.Binary o at l r) us (s.0 ++ t.0 ∷ t.1) same (
+        e.Binary o at' v.0 w.0,
         make s.0 t.1 t.0 v.0 w.0 t.3 v.1 w.1,
-        bare-Binary o l r at ∙ ap (λ q. e.Binary o q (bare r) 0) v.2 ∙ ap (λ q. e.Binary o (bare v.0) q 0) w.2 ∙ sym (bare-Binary o v.0 w.0 at'),
+        bare-Binary o l r at ∙ ap (λ q. e.Binary o 0 q (bare r)) v.2 ∙ ap (λ q. e.Binary o 0 (bare v.0) q) w.2 ∙ sym (bare-Binary o v.0 w.0 at'),
       );
 }
 
 binary_fits : {h : ℕ} (level left_level right_level : Level) (o : Op) (l r : AstExpr) (at : ℕ) → level_of o ≡ level → left_of o ≡ left_level → tighter level ≡ right_level
-    → ((a b : List Lexeme) (t : Lexeme) (l' r' : AstExpr) → t.kind ≡ sign_kind o → IsExpr left_level h a l' → IsExpr right_level h b r' → IsExpr level (suc h) (a ++ t ∷ b) (e.Binary o l' r' (place (a ++ t ∷ b))))
-    → Fits left_level h l → Fits right_level h r → Fits level (suc h) (e.Binary o l r at)
+    → ((a b : List Lexeme) (t : Lexeme) (l' r' : AstExpr) → t.kind ≡ sign_kind o → IsExpr left_level h a l' → IsExpr right_level h b r' → IsExpr level (suc h) (a ++ t ∷ b) (e.Binary o (place (a ++ t ∷ b)) l' r'))
+    → Fits left_level h l → Fits right_level h r → Fits level (suc h) (e.Binary o at l r)
 binary_fits {h} level left_level right_level o l r at own left right make x y =
-    fits_at level (e.Binary o l r at) (spelled l left_level ++ (sign_of o ++ spelled r right_level)) (own-Binary o l r at ∙ own)
+    fits_at level (e.Binary o at l r) (spelled l left_level ++ (sign_of o ++ spelled r right_level)) (own-Binary o l r at ∙ own)
     (alone-Binary o l r at ∙ ap (λ q. spelled l q ++ (sign_of o ++ spelled r (tighter (level_of o)))) left ∙ ap (λ q. spelled l left_level ++ (sign_of o ++ spelled r (tighter q))) own ∙ ap (λ q. spelled l left_level ++ (sign_of o ++ spelled r q)) right)
     (binary_back level left_level right_level o l r at make (at_place x) (at_place y))
 
@@ -458,12 +458,12 @@ unfolding word_kind
 false_back {h} at = one_back (IsExpr Primary h) bare (e.Bool false at) (codes "FALSE") k.False (keyword (codes "FALSE") k.False refl (record { begins = refl; whole = refl })) (λ u kind bytes.
     (e.Bool false u.at, g.no_word u kind, bare-Bool false at ∙ sym (bare-Bool false u.at)))
 
-name_back : {h : ℕ} (n : List ℕ) (at : ℕ) → IsLexed parts_first n ((k.Name, n) ∷ []) → ExprReads Primary h (e.Name n at) n
-name_back {h} n at lexed = one_back (IsExpr Primary h) bare (e.Name n at) n k.Name lexed (λ u kind bytes.
-    (e.Name u.bytes u.at, g.name u kind, bare-Name n at ∙ ap (λ v. e.Name v 0) (sym bytes) ∙ sym (bare-Name u.bytes u.at)))
+name_back : {h : ℕ} (n : List ℕ) (at : ℕ) → IsLexed parts_first n ((k.Name, n) ∷ []) → ExprReads Primary h (e.Name at n) n
+name_back {h} n at lexed = one_back (IsExpr Primary h) bare (e.Name at n) n k.Name lexed (λ u kind bytes.
+    (e.Name u.at u.bytes, g.name u kind, bare-Name n at ∙ ap (λ v. e.Name 0 v) (sym bytes) ∙ sym (bare-Name u.bytes u.at)))
 
 property_back : {h : ℕ} (v : List ℕ) (p : Lexeme) (at : ℕ) → IsLexed parts_first v ((k.Name, v) ∷ []) → is_word p.kind ≡ true → IsLexed parts_first p.bytes ((p.kind, p.bytes) ∷ [])
-    → ExprReads Primary h (e.Property v p.bytes at) (v ++ (codes "." ++ p.bytes))
+    → ExprReads Primary h (e.Property at v p.bytes) (v ++ (codes "." ++ p.bytes))
 property_back {h} v p at name is_word_p property = record {
   marks = (k.Name, v) ∷ (k.Dot, codes ".") ∷ (p.kind, p.bytes) ∷ [];
   lexed = lexed_parted name refl (lexed_before dot_lexed property);
@@ -471,10 +471,10 @@ property_back {h} v p at name is_word_p property = record {
       let t = first_mark us k.Name v ((k.Dot, codes ".") ∷ (p.kind, p.bytes) ∷ []) m in
       let d = first_mark t.1 k.Dot (codes ".") ((p.kind, p.bytes) ∷ []) t.5 in
       let q = one_mark d.1 p.kind p.bytes d.5 in
-      as_tokens (IsExpr Primary h) bare (e.Property v p.bytes at) us (t.0 ∷ d.0 ∷ q.0 ∷ []) (t.2 ∙ ap (λ z. t.0 ∷ z) (d.2 ∙ ap (λ z. d.0 ∷ z) q.1)) (
-        e.Property t.0.bytes q.0.bytes t.0.at,
+      as_tokens (IsExpr Primary h) bare (e.Property at v p.bytes) us (t.0 ∷ d.0 ∷ q.0 ∷ []) (t.2 ∙ ap (λ z. t.0 ∷ z) (d.2 ∙ ap (λ z. d.0 ∷ z) q.1)) (
+        e.Property t.0.at t.0.bytes q.0.bytes,
         g.property t.0 d.0 q.0 t.3 d.3 (ap is_word q.2 ∙ is_word_p),
-        bare-Property v p.bytes at ∙ ap (λ z. e.Property z p.bytes 0) (sym t.4) ∙ ap (λ z. e.Property t.0.bytes z 0) (sym q.3) ∙ sym (bare-Property t.0.bytes q.0.bytes t.0.at),
+        bare-Property v p.bytes at ∙ ap (λ z. e.Property 0 z p.bytes) (sym t.4) ∙ ap (λ z. e.Property 0 t.0.bytes z) (sym q.3) ∙ sym (bare-Property t.0.bytes q.0.bytes t.0.at),
       );
 }
 
@@ -554,9 +554,9 @@ fits (g.no_word t p) all = fits_at Primary (e.Bool false t.at) (codes "FALSE") (
 fits (g.date d t p q) all =
     let s = all.1.0.literal q in
     fits_at Primary (e.Date (content_of t) d.at) (codes "DATE " ++ t.bytes) (own-Date (content_of t) d.at) (alone-Date (content_of t) d.at ∙ ap (λ z. codes "DATE " ++ z) s.0) (date_back t d.at s.1)
-fits (g.name t p) all = fits_at Primary (e.Name t.bytes t.at) t.bytes (own-Name t.bytes t.at) (alone-Name t.bytes t.at) (name_back t.bytes t.at (source_name t all.0 p))
+fits (g.name t p) all = fits_at Primary (e.Name t.at t.bytes) t.bytes (own-Name t.bytes t.at) (alone-Name t.bytes t.at) (name_back t.bytes t.at (source_name t all.0 p))
 fits (g.property t dot p q r s) all =
-    fits_at Primary (e.Property t.bytes p.bytes t.at) (t.bytes ++ (codes "." ++ p.bytes)) (own-Property t.bytes p.bytes t.at) (alone-Property t.bytes p.bytes t.at)
+    fits_at Primary (e.Property t.at t.bytes p.bytes) (t.bytes ++ (codes "." ++ p.bytes)) (own-Property t.bytes p.bytes t.at) (alone-Property t.bytes p.bytes t.at)
     (property_back t.bytes p t.at (source_name t all.0 q) s (source_word p all.1.1.0 s))
 fits (g.id f o v c p i q n r) all =
     let w = named v.bytes v.at in

@@ -46,13 +46,13 @@ places-Bool : (w : Bool) (at : ℕ) → places (e.Bool w at) ≡ at ∷ []
 unfolding places
 places-Bool w at = ap (fold-AstExpr (List ℕ) places_of) (sym (e.rolls-Bool w at)) ∙ fold-roll-AstExpr (List ℕ) places_of (AstExpr-F.Bool w at)
 
-places-Name : (n : List ℕ) (at : ℕ) → places (e.Name n at) ≡ at ∷ []
+places-Name : (n : List ℕ) (at : ℕ) → places (e.Name at n) ≡ at ∷ []
 unfolding places
-places-Name n at = ap (fold-AstExpr (List ℕ) places_of) (sym (e.rolls-Name n at)) ∙ fold-roll-AstExpr (List ℕ) places_of (AstExpr-F.Name n at)
+places-Name n at = ap (fold-AstExpr (List ℕ) places_of) (sym (e.rolls-Name at n)) ∙ fold-roll-AstExpr (List ℕ) places_of (AstExpr-F.Name at n)
 
-places-Property : (v : List ℕ) (p : List ℕ) (at : ℕ) → places (e.Property v p at) ≡ at ∷ []
+places-Property : (v : List ℕ) (p : List ℕ) (at : ℕ) → places (e.Property at v p) ≡ at ∷ []
 unfolding places
-places-Property v p at = ap (fold-AstExpr (List ℕ) places_of) (sym (e.rolls-Property v p at)) ∙ fold-roll-AstExpr (List ℕ) places_of (AstExpr-F.Property v p at)
+places-Property v p at = ap (fold-AstExpr (List ℕ) places_of) (sym (e.rolls-Property at v p)) ∙ fold-roll-AstExpr (List ℕ) places_of (AstExpr-F.Property at v p)
 
 places-Id : (v : Placed) (at : ℕ) → places (e.Id v at) ≡ at ∷ v.at ∷ []
 unfolding places
@@ -74,9 +74,9 @@ places-IsNull : (x : AstExpr) (w : Bool) (at : ℕ) → places (e.IsNull x w at)
 unfolding places
 places-IsNull x w at = ap (fold-AstExpr (List ℕ) places_of) (sym (e.rolls-IsNull x w at)) ∙ fold-roll-AstExpr (List ℕ) places_of (AstExpr-F.IsNull x w at)
 
-places-Binary : (o : Op) (l : AstExpr) (r : AstExpr) (at : ℕ) → places (e.Binary o l r at) ≡ at ∷ (places l ++ places r)
+places-Binary : (o : Op) (l : AstExpr) (r : AstExpr) (at : ℕ) → places (e.Binary o at l r) ≡ at ∷ (places l ++ places r)
 unfolding places
-places-Binary o l r at = ap (fold-AstExpr (List ℕ) places_of) (sym (e.rolls-Binary o l r at)) ∙ fold-roll-AstExpr (List ℕ) places_of (AstExpr-F.Binary o l r at)
+places-Binary o l r at = ap (fold-AstExpr (List ℕ) places_of) (sym (e.rolls-Binary o at l r)) ∙ fold-roll-AstExpr (List ℕ) places_of (AstExpr-F.Binary o at l r)
 
 pub front_all : {A : Type 0} (P : A → Type 0) (a b : List A) → AllByRecursion P (a ++ b) → AllByRecursion P a
 front_all P [] b all = tt

@@ -51,7 +51,7 @@ module _ (keeps : Refusal → Type 0) where
   -- parsers without a bound
   property_steady : (t : Lexeme) → Steady keeps (read_property t) (read_property t)
   unfolding read_property
-  property_steady t = Steady-then keeps (Steady-take keeps) (λ _. Steady-then keeps Steady-expect_word (λ p. Steady-pure keeps (found (e.Property t.bytes p.bytes t.at) 0)))
+  property_steady t = Steady-then keeps (Steady-take keeps) (λ _. Steady-then keeps Steady-expect_word (λ p. Steady-pure keeps (found (e.Property t.at t.bytes p.bytes) 0)))
 
   call_steady : (t : Lexeme) (make : Placed → ℕ → AstExpr) → Steady keeps (read_call t make) (read_call t make)
   unfolding read_call
@@ -63,12 +63,12 @@ module _ (keeps : Refusal → Type 0) where
 
   name_by_steady : (kind : Kind) (t : Lexeme) → Steady keeps (name_by kind t) (name_by kind t)
   name_by_steady k.Dot t = property_steady t
-  name_by_steady k.Open t = chosen_steady (is_id t) _ _ (call_steady t e.Id) (chosen_steady (is_label t) _ _ (call_steady t e.Label) (Steady-pure keeps (found (e.Name t.bytes t.at) 0)))
-  name_by_steady kind t = Steady-pure keeps (found (e.Name t.bytes t.at) 0)
+  name_by_steady k.Open t = chosen_steady (is_id t) _ _ (call_steady t e.Id) (chosen_steady (is_label t) _ _ (call_steady t e.Label) (Steady-pure keeps (found (e.Name t.at t.bytes) 0)))
+  name_by_steady kind t = Steady-pure keeps (found (e.Name t.at t.bytes) 0)
 
   name_steady : (t : Lexeme) → Steady keeps (read_name t) (read_name t)
   unfolding read_name
-  name_steady t = Steady-then keeps (Steady-take keeps) (λ _. Steady-by_next keeps (Steady-pure keeps (found (e.Name t.bytes t.at) 0)) (λ u. name_by_steady u.kind t))
+  name_steady t = Steady-then keeps (Steady-take keeps) (λ _. Steady-by_next keeps (Steady-pure keeps (found (e.Name t.at t.bytes) 0)) (λ u. name_by_steady u.kind t))
 
   date_steady : (t : Lexeme) → Steady keeps (read_date t) (read_date t)
   unfolding read_date

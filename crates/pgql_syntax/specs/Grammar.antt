@@ -62,11 +62,11 @@ pub data IsExpr : Level → ℕ → List Lexeme → AstExpr → Type 0 where
   -- OR, AND, sums and products group to the left
   chain : {level : Level} {h : ℕ} (a b : List Lexeme) (t : Lexeme) (o : Op) {left right : AstExpr}
       → IsExpr level h a left → operator level t.kind ≡ Some o → IsExpr (tighter level) h b right
-      → IsExpr level (suc h) (a ++ t ∷ b) (e.Binary o left right (place (a ++ t ∷ b)))
+      → IsExpr level (suc h) (a ++ t ∷ b) (e.Binary o (place (a ++ t ∷ b)) left right)
   not : {h : ℕ} (t : Lexeme) (ts : List Lexeme) {x : AstExpr} → t.kind ≡ k.Not → IsExpr Not h ts x → IsExpr Not (suc h) (t ∷ ts) (e.Not x t.at)
   comparing : {h : ℕ} (a b : List Lexeme) (t : Lexeme) (o : Op) {left right : AstExpr}
       → IsExpr Sum h a left → comparison t.kind ≡ Some o → IsExpr Sum h b right
-      → IsExpr Test (suc h) (a ++ t ∷ b) (e.Binary o left right (place (a ++ t ∷ b)))
+      → IsExpr Test (suc h) (a ++ t ∷ b) (e.Binary o (place (a ++ t ∷ b)) left right)
   is_null : {h : ℕ} (a : List Lexeme) (is null : Lexeme) {x : AstExpr}
       → IsExpr Sum h a x → is.kind ≡ k.Is → null.kind ≡ k.Null → IsExpr Test (suc h) (a ++ is ∷ null ∷ []) (e.IsNull x false (place (a ++ is ∷ null ∷ [])))
   is_not_null : {h : ℕ} (a : List Lexeme) (is non null : Lexeme) {x : AstExpr}
@@ -78,10 +78,10 @@ pub data IsExpr : Level → ℕ → List Lexeme → AstExpr → Type 0 where
   yes_word : {h : ℕ} (t : Lexeme) → t.kind ≡ k.True → IsExpr Primary h (t ∷ []) (e.Bool true t.at)
   no_word : {h : ℕ} (t : Lexeme) → t.kind ≡ k.False → IsExpr Primary h (t ∷ []) (e.Bool false t.at)
   date : {h : ℕ} (d t : Lexeme) → d.kind ≡ k.Date → t.kind ≡ k.Text → IsExpr Primary h (d ∷ t ∷ []) (e.Date (content_of t) d.at)
-  name : {h : ℕ} (t : Lexeme) → t.kind ≡ k.Name → IsExpr Primary h (t ∷ []) (e.Name t.bytes t.at)
+  name : {h : ℕ} (t : Lexeme) → t.kind ≡ k.Name → IsExpr Primary h (t ∷ []) (e.Name t.at t.bytes)
   -- a word after the dot is a name even where it is a keyword
   property : {h : ℕ} (t dot p : Lexeme) → t.kind ≡ k.Name → dot.kind ≡ k.Dot → is_word p.kind ≡ true
-      → IsExpr Primary h (t ∷ dot ∷ p ∷ []) (e.Property t.bytes p.bytes t.at)
+      → IsExpr Primary h (t ∷ dot ∷ p ∷ []) (e.Property t.at t.bytes p.bytes)
   id : {h : ℕ} (f o v c : Lexeme) → f.kind ≡ k.Name → is_id f ≡ true → o.kind ≡ k.Open → v.kind ≡ k.Name → c.kind ≡ k.Close
       → IsExpr Primary h (f ∷ o ∷ v ∷ c ∷ []) (e.Id (record { name = v.bytes; at = v.at }) f.at)
   label : {h : ℕ} (f o v c : Lexeme) → f.kind ≡ k.Name → is_label f ≡ true → o.kind ≡ k.Open → v.kind ≡ k.Name → c.kind ≡ k.Close
@@ -144,14 +144,14 @@ at_by (AstExpr-F.Int n at) = at
 at_by (AstExpr-F.Text c at) = at
 at_by (AstExpr-F.Date c at) = at
 at_by (AstExpr-F.Bool b at) = at
-at_by (AstExpr-F.Name n at) = at
-at_by (AstExpr-F.Property v p at) = at
+at_by (AstExpr-F.Name at n) = at
+at_by (AstExpr-F.Property at v p) = at
 at_by (AstExpr-F.Id v at) = at
 at_by (AstExpr-F.Label v at) = at
 at_by (AstExpr-F.Not x at) = at
 at_by (AstExpr-F.Neg x at) = at
 at_by (AstExpr-F.IsNull x n at) = at
-at_by (AstExpr-F.Binary o l r at) = at
+at_by (AstExpr-F.Binary o at l r) = at
 
 -- the place of a tree, parentheses round it not counted
 unfoldable pub at_of : AstExpr → ℕ

@@ -11,20 +11,20 @@ ghost use Rattle.pgql_lexemes.specs.declared.kind.Kind.TheVariants as kind;
 use crate::part::{Part, list};
 use adfs_base::Name;
 use pgql_lexemes::{Input, Kind, Lexeme, Stop};
-use pgql_tree::{EdgePat, Path, Placed, VertexPat};
-use sqlite_items::Items;
+use pgql_tree::{EdgePat, Labels, Path, Placed, VertexPat};
+use sqlite_items::{Boxed, Items};
 use std::alloc::Global;
 
 /// What stands inside a vertex or edge pattern.
 #[derive(Drop)]
 pub struct Spec {
-    pub name: Option<Placed>,
-    pub labels: Items<Name>,
+    pub name: Option<Boxed<Placed>>,
+    pub labels: Labels,
 }
 
 /// `Name`
 #[tactic(auto, unfolding(crate::specs::Patterns::read_placed))]
-pub fn name(alloc: Global, input: &mut Input<'_>) -> Result<Placed, Stop>
+pub fn name(alloc: Global, input: &mut Input<'_>) -> Result<Boxed<Placed>, Stop>
     ensures { Reads (spec.read_placed input.old) result input.new }
 {
     let t = input.expect(Kind::Name)?;
@@ -42,20 +42,29 @@ impl Part for Name {
     }
 }
 
+/// `Name {"|" Name}`
+#[tactic(auto, using(crate::proofs::Paths::label_shrinks))]
+fn label_list(alloc: Global, input: &mut Input<'_>) -> Result<Labels, Stop>
+    ensures { Reads (separated spec.read_label kind.Bar input.old) result input.new }
+{
+    let labels = list(alloc, input, Kind::Bar)?;
+    Ok(Labels::new(alloc, labels)?)
+}
+
 /// `[":" Name {"|" Name}]`
-#[tactic(auto, using(crate::proofs::Paths::label_shrinks, crate::proofs::Choices::labels_is))]
-fn labels(alloc: Global, input: &mut Input<'_>) -> Result<Items<Name>, Stop>
+#[tactic(auto, using(crate::proofs::Choices::labels_is))]
+fn labels(alloc: Global, input: &mut Input<'_>) -> Result<Labels, Stop>
     ensures { Reads (spec.read_labels input.old) result input.new }
 {
     if input.eat(Kind::Colon) {
-        list(alloc, input, Kind::Bar)
+        label_list(alloc, input)
     } else {
-        Ok(Items::new(alloc))
+        Ok(Labels::none())
     }
 }
 
 /// `[Name]`
-fn name_or_none(alloc: Global, input: &mut Input<'_>) -> Result<Option<Placed>, Stop>
+fn name_or_none(alloc: Global, input: &mut Input<'_>) -> Result<Option<Boxed<Placed>>, Stop>
     ensures { Reads (perhaps spec.read_placed kind.Name input.old) result input.new }
 {
     if input.sees(Kind::Name) {
@@ -116,12 +125,12 @@ fn edge_of(out: bool, inside: Spec, at: u32) -> EdgePat
 }
 
 /// An edge without name and labels.
-fn arrow(alloc: Global, out: bool, at: u32) -> EdgePat
+fn arrow(out: bool, at: u32) -> EdgePat
     ensures { result ≡ grammar.arrow out at }
 {
     EdgePat {
         name: None,
-        labels: Items::new(alloc),
+        labels: Labels::none(),
         out,
         at,
     }
@@ -155,7 +164,7 @@ fn after_minus(alloc: Global, input: &mut Input<'_>, at: u32) -> Result<EdgePat,
     match t.kind {
         Kind::Greater => {
             input.take()?;
-            Ok(arrow(alloc, true, at))
+            Ok(arrow(true, at))
         }
         Kind::OpenBracket => edge_out(alloc, input, at),
         _ => Err(Stop::Unexpected),
@@ -177,11 +186,11 @@ fn after_less(alloc: Global, input: &mut Input<'_>, at: u32) -> Result<EdgePat, 
     ensures { Reads (spec.after_less at input.old) result input.new }
 {
     let Some(t) = input.first() else {
-        return Ok(arrow(alloc, false, at));
+        return Ok(arrow(false, at));
     };
     match t.kind {
         Kind::OpenBracket => edge_in(alloc, input, at),
-        _ => Ok(arrow(alloc, false, at)),
+        _ => Ok(arrow(false, at)),
     }
 }
 

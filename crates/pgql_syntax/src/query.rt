@@ -16,7 +16,7 @@ use adfs_base::EXPRESSION_HEIGHT;
 use pgql_expr::nested;
 use pgql_lexemes::{Input, Kind, Stop};
 use pgql_tree::{Ast, AstExpr, Item, Key, Level, Path, Placed};
-use sqlite_items::Items;
+use sqlite_items::{Boxed, Items};
 use std::alloc::Global;
 
 /// What stands before the condition of a query.
@@ -66,7 +66,7 @@ fn at_of(x: &AstExpr) -> u32
 
 /// `[AS Name]`
 #[tactic(auto, using(crate::proofs::Choices::optional_is))]
-fn as_name(alloc: Global, input: &mut Input<'_>) -> Result<Option<Placed>, Stop>
+fn as_name(alloc: Global, input: &mut Input<'_>) -> Result<Option<Boxed<Placed>>, Stop>
     ensures { Reads (optional read_placed kind.As input.old) result input.new }
 {
     if input.eat(Kind::As) {

@@ -38,19 +38,19 @@ bare-Bool w at = ap (fold-AstExpr AstExpr bare_step) (sym (e.rolls-Bool w at)) �
 layer-Bool : (a : AstExpr) (w : Bool) (at : ℕ) → a ≡ e.Bool w at → out-AstExpr (bare a) ≡ AstExpr-F.Bool w 0
 layer-Bool a w at q = ap (λ x. out-AstExpr (bare x)) q ∙ ap out-AstExpr (bare-Bool w at) ∙ e.outs-Bool w 0
 
-pub bare-Name : (n : List ℕ) (at : ℕ) → bare (e.Name n at) ≡ e.Name n 0
+pub bare-Name : (n : List ℕ) (at : ℕ) → bare (e.Name at n) ≡ e.Name 0 n
 unfolding bare
-bare-Name n at = ap (fold-AstExpr AstExpr bare_step) (sym (e.rolls-Name n at)) ∙ fold-roll-AstExpr AstExpr bare_step (AstExpr-F.Name n at)
+bare-Name n at = ap (fold-AstExpr AstExpr bare_step) (sym (e.rolls-Name at n)) ∙ fold-roll-AstExpr AstExpr bare_step (AstExpr-F.Name at n)
 
-layer-Name : (a : AstExpr) (n : List ℕ) (at : ℕ) → a ≡ e.Name n at → out-AstExpr (bare a) ≡ AstExpr-F.Name n 0
-layer-Name a n at q = ap (λ x. out-AstExpr (bare x)) q ∙ ap out-AstExpr (bare-Name n at) ∙ e.outs-Name n 0
+layer-Name : (a : AstExpr) (n : List ℕ) (at : ℕ) → a ≡ e.Name at n → out-AstExpr (bare a) ≡ AstExpr-F.Name 0 n
+layer-Name a n at q = ap (λ x. out-AstExpr (bare x)) q ∙ ap out-AstExpr (bare-Name n at) ∙ e.outs-Name 0 n
 
-pub bare-Property : (v : List ℕ) (p : List ℕ) (at : ℕ) → bare (e.Property v p at) ≡ e.Property v p 0
+pub bare-Property : (v : List ℕ) (p : List ℕ) (at : ℕ) → bare (e.Property at v p) ≡ e.Property 0 v p
 unfolding bare
-bare-Property v p at = ap (fold-AstExpr AstExpr bare_step) (sym (e.rolls-Property v p at)) ∙ fold-roll-AstExpr AstExpr bare_step (AstExpr-F.Property v p at)
+bare-Property v p at = ap (fold-AstExpr AstExpr bare_step) (sym (e.rolls-Property at v p)) ∙ fold-roll-AstExpr AstExpr bare_step (AstExpr-F.Property at v p)
 
-layer-Property : (a : AstExpr) (v : List ℕ) (p : List ℕ) (at : ℕ) → a ≡ e.Property v p at → out-AstExpr (bare a) ≡ AstExpr-F.Property v p 0
-layer-Property a v p at q = ap (λ x. out-AstExpr (bare x)) q ∙ ap out-AstExpr (bare-Property v p at) ∙ e.outs-Property v p 0
+layer-Property : (a : AstExpr) (v : List ℕ) (p : List ℕ) (at : ℕ) → a ≡ e.Property at v p → out-AstExpr (bare a) ≡ AstExpr-F.Property 0 v p
+layer-Property a v p at q = ap (λ x. out-AstExpr (bare x)) q ∙ ap out-AstExpr (bare-Property v p at) ∙ e.outs-Property 0 v p
 
 pub bare-Id : (v : Placed) (at : ℕ) → bare (e.Id v at) ≡ e.Id (bare_name v) 0
 unfolding bare
@@ -87,12 +87,12 @@ bare-IsNull x w at = ap (fold-AstExpr AstExpr bare_step) (sym (e.rolls-IsNull x 
 layer-IsNull : (a : AstExpr) (x : AstExpr) (w : Bool) (at : ℕ) → a ≡ e.IsNull x w at → out-AstExpr (bare a) ≡ AstExpr-F.IsNull (bare x) w 0
 layer-IsNull a x w at q = ap (λ x. out-AstExpr (bare x)) q ∙ ap out-AstExpr (bare-IsNull x w at) ∙ e.outs-IsNull (bare x) w 0
 
-pub bare-Binary : (o : Op) (l : AstExpr) (r : AstExpr) (at : ℕ) → bare (e.Binary o l r at) ≡ e.Binary o (bare l) (bare r) 0
+pub bare-Binary : (o : Op) (l : AstExpr) (r : AstExpr) (at : ℕ) → bare (e.Binary o at l r) ≡ e.Binary o 0 (bare l) (bare r)
 unfolding bare
-bare-Binary o l r at = ap (fold-AstExpr AstExpr bare_step) (sym (e.rolls-Binary o l r at)) ∙ fold-roll-AstExpr AstExpr bare_step (AstExpr-F.Binary o l r at)
+bare-Binary o l r at = ap (fold-AstExpr AstExpr bare_step) (sym (e.rolls-Binary o at l r)) ∙ fold-roll-AstExpr AstExpr bare_step (AstExpr-F.Binary o at l r)
 
-layer-Binary : (a : AstExpr) (o : Op) (l : AstExpr) (r : AstExpr) (at : ℕ) → a ≡ e.Binary o l r at → out-AstExpr (bare a) ≡ AstExpr-F.Binary o (bare l) (bare r) 0
-layer-Binary a o l r at q = ap (λ x. out-AstExpr (bare x)) q ∙ ap out-AstExpr (bare-Binary o l r at) ∙ e.outs-Binary o (bare l) (bare r) 0
+layer-Binary : (a : AstExpr) (o : Op) (l : AstExpr) (r : AstExpr) (at : ℕ) → a ≡ e.Binary o at l r → out-AstExpr (bare a) ≡ AstExpr-F.Binary o 0 (bare l) (bare r)
+layer-Binary a o l r at q = ap (λ x. out-AstExpr (bare x)) q ∙ ap out-AstExpr (bare-Binary o l r at) ∙ e.outs-Binary o 0 (bare l) (bare r)
 
 pub same-Int : (a b : AstExpr) (n : ℤ) (n2 : ℤ) (s s2 : ℕ) → a ≡ e.Int n s → b ≡ e.Int n2 s2
     → (n ≡ n2 → bare a ≡ bare b) × (bare a ≡ bare b → n ≡ n2)
@@ -122,18 +122,18 @@ same-Bool a b w w2 s s2 q q2 = (
   (λ same. let f : ◌≡◌ {A = AstExpr-F AstExpr} (AstExpr-F.Bool w 0) (AstExpr-F.Bool w2 0) = sym (layer-Bool a w s q) ∙ ap out-AstExpr same ∙ layer-Bool b w2 s2 q2 in cc),
 )
 
-pub same-Name : (a b : AstExpr) (n : List ℕ) (n2 : List ℕ) (s s2 : ℕ) → a ≡ e.Name n s → b ≡ e.Name n2 s2
+pub same-Name : (a b : AstExpr) (n : List ℕ) (n2 : List ℕ) (s s2 : ℕ) → a ≡ e.Name s n → b ≡ e.Name s2 n2
     → (n ≡ n2 → bare a ≡ bare b) × (bare a ≡ bare b → n ≡ n2)
 same-Name a b n n2 s s2 q q2 = (
-  (λ h1. ap bare q ∙ bare-Name n s ∙ ap (λ z. e.Name z 0) h1 ∙ sym (ap bare q2 ∙ bare-Name n2 s2)),
-  (λ same. let f : ◌≡◌ {A = AstExpr-F AstExpr} (AstExpr-F.Name n 0) (AstExpr-F.Name n2 0) = sym (layer-Name a n s q) ∙ ap out-AstExpr same ∙ layer-Name b n2 s2 q2 in cc),
+  (λ h1. ap bare q ∙ bare-Name n s ∙ ap (λ z. e.Name 0 z) h1 ∙ sym (ap bare q2 ∙ bare-Name n2 s2)),
+  (λ same. let f : ◌≡◌ {A = AstExpr-F AstExpr} (AstExpr-F.Name 0 n) (AstExpr-F.Name 0 n2) = sym (layer-Name a n s q) ∙ ap out-AstExpr same ∙ layer-Name b n2 s2 q2 in cc),
 )
 
-pub same-Property : (a b : AstExpr) (v : List ℕ) (p : List ℕ) (v2 : List ℕ) (p2 : List ℕ) (s s2 : ℕ) → a ≡ e.Property v p s → b ≡ e.Property v2 p2 s2
+pub same-Property : (a b : AstExpr) (v : List ℕ) (p : List ℕ) (v2 : List ℕ) (p2 : List ℕ) (s s2 : ℕ) → a ≡ e.Property s v p → b ≡ e.Property s2 v2 p2
     → (v ≡ v2 → p ≡ p2 → bare a ≡ bare b) × (bare a ≡ bare b → (v ≡ v2) × (p ≡ p2))
 same-Property a b v p v2 p2 s s2 q q2 = (
-  (λ h1 h2. ap bare q ∙ bare-Property v p s ∙ ap (λ z. e.Property z p 0) h1 ∙ ap (λ z. e.Property v2 z 0) h2 ∙ sym (ap bare q2 ∙ bare-Property v2 p2 s2)),
-  (λ same. let f : ◌≡◌ {A = AstExpr-F AstExpr} (AstExpr-F.Property v p 0) (AstExpr-F.Property v2 p2 0) = sym (layer-Property a v p s q) ∙ ap out-AstExpr same ∙ layer-Property b v2 p2 s2 q2 in (cc, cc)),
+  (λ h1 h2. ap bare q ∙ bare-Property v p s ∙ ap (λ z. e.Property 0 z p) h1 ∙ ap (λ z. e.Property 0 v2 z) h2 ∙ sym (ap bare q2 ∙ bare-Property v2 p2 s2)),
+  (λ same. let f : ◌≡◌ {A = AstExpr-F AstExpr} (AstExpr-F.Property 0 v p) (AstExpr-F.Property 0 v2 p2) = sym (layer-Property a v p s q) ∙ ap out-AstExpr same ∙ layer-Property b v2 p2 s2 q2 in (cc, cc)),
 )
 
 pub same-Id : (a b : AstExpr) (v : Placed) (v2 : Placed) (s s2 : ℕ) → a ≡ e.Id v s → b ≡ e.Id v2 s2
@@ -171,11 +171,11 @@ same-IsNull a b x w x2 w2 s s2 q q2 = (
   (λ same. let f : ◌≡◌ {A = AstExpr-F AstExpr} (AstExpr-F.IsNull (bare x) w 0) (AstExpr-F.IsNull (bare x2) w2 0) = sym (layer-IsNull a x w s q) ∙ ap out-AstExpr same ∙ layer-IsNull b x2 w2 s2 q2 in (cc, cc)),
 )
 
-pub same-Binary : (a b : AstExpr) (o : Op) (l : AstExpr) (r : AstExpr) (o2 : Op) (l2 : AstExpr) (r2 : AstExpr) (s s2 : ℕ) → a ≡ e.Binary o l r s → b ≡ e.Binary o2 l2 r2 s2
+pub same-Binary : (a b : AstExpr) (o : Op) (l : AstExpr) (r : AstExpr) (o2 : Op) (l2 : AstExpr) (r2 : AstExpr) (s s2 : ℕ) → a ≡ e.Binary o s l r → b ≡ e.Binary o2 s2 l2 r2
     → (o ≡ o2 → bare l ≡ bare l2 → bare r ≡ bare r2 → bare a ≡ bare b) × (bare a ≡ bare b → (o ≡ o2) × (bare l ≡ bare l2) × (bare r ≡ bare r2))
 same-Binary a b o l r o2 l2 r2 s s2 q q2 = (
-  (λ h1 h2 h3. ap bare q ∙ bare-Binary o l r s ∙ ap (λ z. e.Binary z (bare l) (bare r) 0) h1 ∙ ap (λ z. e.Binary o2 z (bare r) 0) h2 ∙ ap (λ z. e.Binary o2 (bare l2) z 0) h3 ∙ sym (ap bare q2 ∙ bare-Binary o2 l2 r2 s2)),
-  (λ same. let f : ◌≡◌ {A = AstExpr-F AstExpr} (AstExpr-F.Binary o (bare l) (bare r) 0) (AstExpr-F.Binary o2 (bare l2) (bare r2) 0) = sym (layer-Binary a o l r s q) ∙ ap out-AstExpr same ∙ layer-Binary b o2 l2 r2 s2 q2 in (cc, cc, cc)),
+  (λ h1 h2 h3. ap bare q ∙ bare-Binary o l r s ∙ ap (λ z. e.Binary z 0 (bare l) (bare r)) h1 ∙ ap (λ z. e.Binary o2 0 z (bare r)) h2 ∙ ap (λ z. e.Binary o2 0 (bare l2) z) h3 ∙ sym (ap bare q2 ∙ bare-Binary o2 l2 r2 s2)),
+  (λ same. let f : ◌≡◌ {A = AstExpr-F AstExpr} (AstExpr-F.Binary o 0 (bare l) (bare r)) (AstExpr-F.Binary o2 0 (bare l2) (bare r2)) = sym (layer-Binary a o l r s q) ∙ ap out-AstExpr same ∙ layer-Binary b o2 l2 r2 s2 q2 in (cc, cc, cc)),
 )
 
 pub other-Int : (a b : AstExpr) (n : ℤ) (s : ℕ) → a ≡ e.Int n s → ((n2 : ℤ) (s2 : ℕ) → b ≡ e.Int n2 s2 → ⊥) → bare a ≡ bare b → ⊥
@@ -186,14 +186,14 @@ other-Int a b n s q never same = by_which b (which b) never (sym (layer-Int a n 
     by_which _ (is_Text c2 s2) never f = let g : ◌≡◌ {A = AstExpr-F AstExpr} (AstExpr-F.Int n 0) (AstExpr-F.Text c2 0) = f ∙ layer-Text (e.Text c2 s2) c2 s2 refl in cc
     by_which _ (is_Date c2 s2) never f = let g : ◌≡◌ {A = AstExpr-F AstExpr} (AstExpr-F.Int n 0) (AstExpr-F.Date c2 0) = f ∙ layer-Date (e.Date c2 s2) c2 s2 refl in cc
     by_which _ (is_Bool w2 s2) never f = let g : ◌≡◌ {A = AstExpr-F AstExpr} (AstExpr-F.Int n 0) (AstExpr-F.Bool w2 0) = f ∙ layer-Bool (e.Bool w2 s2) w2 s2 refl in cc
-    by_which _ (is_Name n2 s2) never f = let g : ◌≡◌ {A = AstExpr-F AstExpr} (AstExpr-F.Int n 0) (AstExpr-F.Name n2 0) = f ∙ layer-Name (e.Name n2 s2) n2 s2 refl in cc
-    by_which _ (is_Property v2 p2 s2) never f = let g : ◌≡◌ {A = AstExpr-F AstExpr} (AstExpr-F.Int n 0) (AstExpr-F.Property v2 p2 0) = f ∙ layer-Property (e.Property v2 p2 s2) v2 p2 s2 refl in cc
+    by_which _ (is_Name n2 s2) never f = let g : ◌≡◌ {A = AstExpr-F AstExpr} (AstExpr-F.Int n 0) (AstExpr-F.Name 0 n2) = f ∙ layer-Name (e.Name s2 n2) n2 s2 refl in cc
+    by_which _ (is_Property v2 p2 s2) never f = let g : ◌≡◌ {A = AstExpr-F AstExpr} (AstExpr-F.Int n 0) (AstExpr-F.Property 0 v2 p2) = f ∙ layer-Property (e.Property s2 v2 p2) v2 p2 s2 refl in cc
     by_which _ (is_Id v2 s2) never f = let g : ◌≡◌ {A = AstExpr-F AstExpr} (AstExpr-F.Int n 0) (AstExpr-F.Id (bare_name v2) 0) = f ∙ layer-Id (e.Id v2 s2) v2 s2 refl in cc
     by_which _ (is_Label v2 s2) never f = let g : ◌≡◌ {A = AstExpr-F AstExpr} (AstExpr-F.Int n 0) (AstExpr-F.Label (bare_name v2) 0) = f ∙ layer-Label (e.Label v2 s2) v2 s2 refl in cc
     by_which _ (is_Not x2 s2) never f = let g : ◌≡◌ {A = AstExpr-F AstExpr} (AstExpr-F.Int n 0) (AstExpr-F.Not (bare x2) 0) = f ∙ layer-Not (e.Not x2 s2) x2 s2 refl in cc
     by_which _ (is_Neg x2 s2) never f = let g : ◌≡◌ {A = AstExpr-F AstExpr} (AstExpr-F.Int n 0) (AstExpr-F.Neg (bare x2) 0) = f ∙ layer-Neg (e.Neg x2 s2) x2 s2 refl in cc
     by_which _ (is_IsNull x2 w2 s2) never f = let g : ◌≡◌ {A = AstExpr-F AstExpr} (AstExpr-F.Int n 0) (AstExpr-F.IsNull (bare x2) w2 0) = f ∙ layer-IsNull (e.IsNull x2 w2 s2) x2 w2 s2 refl in cc
-    by_which _ (is_Binary o2 l2 r2 s2) never f = let g : ◌≡◌ {A = AstExpr-F AstExpr} (AstExpr-F.Int n 0) (AstExpr-F.Binary o2 (bare l2) (bare r2) 0) = f ∙ layer-Binary (e.Binary o2 l2 r2 s2) o2 l2 r2 s2 refl in cc
+    by_which _ (is_Binary o2 l2 r2 s2) never f = let g : ◌≡◌ {A = AstExpr-F AstExpr} (AstExpr-F.Int n 0) (AstExpr-F.Binary o2 0 (bare l2) (bare r2)) = f ∙ layer-Binary (e.Binary o2 s2 l2 r2) o2 l2 r2 s2 refl in cc
 
 pub other-Text : (a b : AstExpr) (c : List ℕ) (s : ℕ) → a ≡ e.Text c s → ((c2 : List ℕ) (s2 : ℕ) → b ≡ e.Text c2 s2 → ⊥) → bare a ≡ bare b → ⊥
 other-Text a b c s q never same = by_which b (which b) never (sym (layer-Text a c s q) ∙ ap out-AstExpr same)
@@ -203,14 +203,14 @@ other-Text a b c s q never same = by_which b (which b) never (sym (layer-Text a 
     by_which _ (is_Text c2 s2) never f = never c2 s2 refl
     by_which _ (is_Date c2 s2) never f = let g : ◌≡◌ {A = AstExpr-F AstExpr} (AstExpr-F.Text c 0) (AstExpr-F.Date c2 0) = f ∙ layer-Date (e.Date c2 s2) c2 s2 refl in cc
     by_which _ (is_Bool w2 s2) never f = let g : ◌≡◌ {A = AstExpr-F AstExpr} (AstExpr-F.Text c 0) (AstExpr-F.Bool w2 0) = f ∙ layer-Bool (e.Bool w2 s2) w2 s2 refl in cc
-    by_which _ (is_Name n2 s2) never f = let g : ◌≡◌ {A = AstExpr-F AstExpr} (AstExpr-F.Text c 0) (AstExpr-F.Name n2 0) = f ∙ layer-Name (e.Name n2 s2) n2 s2 refl in cc
-    by_which _ (is_Property v2 p2 s2) never f = let g : ◌≡◌ {A = AstExpr-F AstExpr} (AstExpr-F.Text c 0) (AstExpr-F.Property v2 p2 0) = f ∙ layer-Property (e.Property v2 p2 s2) v2 p2 s2 refl in cc
+    by_which _ (is_Name n2 s2) never f = let g : ◌≡◌ {A = AstExpr-F AstExpr} (AstExpr-F.Text c 0) (AstExpr-F.Name 0 n2) = f ∙ layer-Name (e.Name s2 n2) n2 s2 refl in cc
+    by_which _ (is_Property v2 p2 s2) never f = let g : ◌≡◌ {A = AstExpr-F AstExpr} (AstExpr-F.Text c 0) (AstExpr-F.Property 0 v2 p2) = f ∙ layer-Property (e.Property s2 v2 p2) v2 p2 s2 refl in cc
     by_which _ (is_Id v2 s2) never f = let g : ◌≡◌ {A = AstExpr-F AstExpr} (AstExpr-F.Text c 0) (AstExpr-F.Id (bare_name v2) 0) = f ∙ layer-Id (e.Id v2 s2) v2 s2 refl in cc
     by_which _ (is_Label v2 s2) never f = let g : ◌≡◌ {A = AstExpr-F AstExpr} (AstExpr-F.Text c 0) (AstExpr-F.Label (bare_name v2) 0) = f ∙ layer-Label (e.Label v2 s2) v2 s2 refl in cc
     by_which _ (is_Not x2 s2) never f = let g : ◌≡◌ {A = AstExpr-F AstExpr} (AstExpr-F.Text c 0) (AstExpr-F.Not (bare x2) 0) = f ∙ layer-Not (e.Not x2 s2) x2 s2 refl in cc
     by_which _ (is_Neg x2 s2) never f = let g : ◌≡◌ {A = AstExpr-F AstExpr} (AstExpr-F.Text c 0) (AstExpr-F.Neg (bare x2) 0) = f ∙ layer-Neg (e.Neg x2 s2) x2 s2 refl in cc
     by_which _ (is_IsNull x2 w2 s2) never f = let g : ◌≡◌ {A = AstExpr-F AstExpr} (AstExpr-F.Text c 0) (AstExpr-F.IsNull (bare x2) w2 0) = f ∙ layer-IsNull (e.IsNull x2 w2 s2) x2 w2 s2 refl in cc
-    by_which _ (is_Binary o2 l2 r2 s2) never f = let g : ◌≡◌ {A = AstExpr-F AstExpr} (AstExpr-F.Text c 0) (AstExpr-F.Binary o2 (bare l2) (bare r2) 0) = f ∙ layer-Binary (e.Binary o2 l2 r2 s2) o2 l2 r2 s2 refl in cc
+    by_which _ (is_Binary o2 l2 r2 s2) never f = let g : ◌≡◌ {A = AstExpr-F AstExpr} (AstExpr-F.Text c 0) (AstExpr-F.Binary o2 0 (bare l2) (bare r2)) = f ∙ layer-Binary (e.Binary o2 s2 l2 r2) o2 l2 r2 s2 refl in cc
 
 pub other-Date : (a b : AstExpr) (c : List ℕ) (s : ℕ) → a ≡ e.Date c s → ((c2 : List ℕ) (s2 : ℕ) → b ≡ e.Date c2 s2 → ⊥) → bare a ≡ bare b → ⊥
 other-Date a b c s q never same = by_which b (which b) never (sym (layer-Date a c s q) ∙ ap out-AstExpr same)
@@ -220,14 +220,14 @@ other-Date a b c s q never same = by_which b (which b) never (sym (layer-Date a 
     by_which _ (is_Text c2 s2) never f = let g : ◌≡◌ {A = AstExpr-F AstExpr} (AstExpr-F.Date c 0) (AstExpr-F.Text c2 0) = f ∙ layer-Text (e.Text c2 s2) c2 s2 refl in cc
     by_which _ (is_Date c2 s2) never f = never c2 s2 refl
     by_which _ (is_Bool w2 s2) never f = let g : ◌≡◌ {A = AstExpr-F AstExpr} (AstExpr-F.Date c 0) (AstExpr-F.Bool w2 0) = f ∙ layer-Bool (e.Bool w2 s2) w2 s2 refl in cc
-    by_which _ (is_Name n2 s2) never f = let g : ◌≡◌ {A = AstExpr-F AstExpr} (AstExpr-F.Date c 0) (AstExpr-F.Name n2 0) = f ∙ layer-Name (e.Name n2 s2) n2 s2 refl in cc
-    by_which _ (is_Property v2 p2 s2) never f = let g : ◌≡◌ {A = AstExpr-F AstExpr} (AstExpr-F.Date c 0) (AstExpr-F.Property v2 p2 0) = f ∙ layer-Property (e.Property v2 p2 s2) v2 p2 s2 refl in cc
+    by_which _ (is_Name n2 s2) never f = let g : ◌≡◌ {A = AstExpr-F AstExpr} (AstExpr-F.Date c 0) (AstExpr-F.Name 0 n2) = f ∙ layer-Name (e.Name s2 n2) n2 s2 refl in cc
+    by_which _ (is_Property v2 p2 s2) never f = let g : ◌≡◌ {A = AstExpr-F AstExpr} (AstExpr-F.Date c 0) (AstExpr-F.Property 0 v2 p2) = f ∙ layer-Property (e.Property s2 v2 p2) v2 p2 s2 refl in cc
     by_which _ (is_Id v2 s2) never f = let g : ◌≡◌ {A = AstExpr-F AstExpr} (AstExpr-F.Date c 0) (AstExpr-F.Id (bare_name v2) 0) = f ∙ layer-Id (e.Id v2 s2) v2 s2 refl in cc
     by_which _ (is_Label v2 s2) never f = let g : ◌≡◌ {A = AstExpr-F AstExpr} (AstExpr-F.Date c 0) (AstExpr-F.Label (bare_name v2) 0) = f ∙ layer-Label (e.Label v2 s2) v2 s2 refl in cc
     by_which _ (is_Not x2 s2) never f = let g : ◌≡◌ {A = AstExpr-F AstExpr} (AstExpr-F.Date c 0) (AstExpr-F.Not (bare x2) 0) = f ∙ layer-Not (e.Not x2 s2) x2 s2 refl in cc
     by_which _ (is_Neg x2 s2) never f = let g : ◌≡◌ {A = AstExpr-F AstExpr} (AstExpr-F.Date c 0) (AstExpr-F.Neg (bare x2) 0) = f ∙ layer-Neg (e.Neg x2 s2) x2 s2 refl in cc
     by_which _ (is_IsNull x2 w2 s2) never f = let g : ◌≡◌ {A = AstExpr-F AstExpr} (AstExpr-F.Date c 0) (AstExpr-F.IsNull (bare x2) w2 0) = f ∙ layer-IsNull (e.IsNull x2 w2 s2) x2 w2 s2 refl in cc
-    by_which _ (is_Binary o2 l2 r2 s2) never f = let g : ◌≡◌ {A = AstExpr-F AstExpr} (AstExpr-F.Date c 0) (AstExpr-F.Binary o2 (bare l2) (bare r2) 0) = f ∙ layer-Binary (e.Binary o2 l2 r2 s2) o2 l2 r2 s2 refl in cc
+    by_which _ (is_Binary o2 l2 r2 s2) never f = let g : ◌≡◌ {A = AstExpr-F AstExpr} (AstExpr-F.Date c 0) (AstExpr-F.Binary o2 0 (bare l2) (bare r2)) = f ∙ layer-Binary (e.Binary o2 s2 l2 r2) o2 l2 r2 s2 refl in cc
 
 pub other-Bool : (a b : AstExpr) (w : Bool) (s : ℕ) → a ≡ e.Bool w s → ((w2 : Bool) (s2 : ℕ) → b ≡ e.Bool w2 s2 → ⊥) → bare a ≡ bare b → ⊥
 other-Bool a b w s q never same = by_which b (which b) never (sym (layer-Bool a w s q) ∙ ap out-AstExpr same)
@@ -237,48 +237,48 @@ other-Bool a b w s q never same = by_which b (which b) never (sym (layer-Bool a 
     by_which _ (is_Text c2 s2) never f = let g : ◌≡◌ {A = AstExpr-F AstExpr} (AstExpr-F.Bool w 0) (AstExpr-F.Text c2 0) = f ∙ layer-Text (e.Text c2 s2) c2 s2 refl in cc
     by_which _ (is_Date c2 s2) never f = let g : ◌≡◌ {A = AstExpr-F AstExpr} (AstExpr-F.Bool w 0) (AstExpr-F.Date c2 0) = f ∙ layer-Date (e.Date c2 s2) c2 s2 refl in cc
     by_which _ (is_Bool w2 s2) never f = never w2 s2 refl
-    by_which _ (is_Name n2 s2) never f = let g : ◌≡◌ {A = AstExpr-F AstExpr} (AstExpr-F.Bool w 0) (AstExpr-F.Name n2 0) = f ∙ layer-Name (e.Name n2 s2) n2 s2 refl in cc
-    by_which _ (is_Property v2 p2 s2) never f = let g : ◌≡◌ {A = AstExpr-F AstExpr} (AstExpr-F.Bool w 0) (AstExpr-F.Property v2 p2 0) = f ∙ layer-Property (e.Property v2 p2 s2) v2 p2 s2 refl in cc
+    by_which _ (is_Name n2 s2) never f = let g : ◌≡◌ {A = AstExpr-F AstExpr} (AstExpr-F.Bool w 0) (AstExpr-F.Name 0 n2) = f ∙ layer-Name (e.Name s2 n2) n2 s2 refl in cc
+    by_which _ (is_Property v2 p2 s2) never f = let g : ◌≡◌ {A = AstExpr-F AstExpr} (AstExpr-F.Bool w 0) (AstExpr-F.Property 0 v2 p2) = f ∙ layer-Property (e.Property s2 v2 p2) v2 p2 s2 refl in cc
     by_which _ (is_Id v2 s2) never f = let g : ◌≡◌ {A = AstExpr-F AstExpr} (AstExpr-F.Bool w 0) (AstExpr-F.Id (bare_name v2) 0) = f ∙ layer-Id (e.Id v2 s2) v2 s2 refl in cc
     by_which _ (is_Label v2 s2) never f = let g : ◌≡◌ {A = AstExpr-F AstExpr} (AstExpr-F.Bool w 0) (AstExpr-F.Label (bare_name v2) 0) = f ∙ layer-Label (e.Label v2 s2) v2 s2 refl in cc
     by_which _ (is_Not x2 s2) never f = let g : ◌≡◌ {A = AstExpr-F AstExpr} (AstExpr-F.Bool w 0) (AstExpr-F.Not (bare x2) 0) = f ∙ layer-Not (e.Not x2 s2) x2 s2 refl in cc
     by_which _ (is_Neg x2 s2) never f = let g : ◌≡◌ {A = AstExpr-F AstExpr} (AstExpr-F.Bool w 0) (AstExpr-F.Neg (bare x2) 0) = f ∙ layer-Neg (e.Neg x2 s2) x2 s2 refl in cc
     by_which _ (is_IsNull x2 w2 s2) never f = let g : ◌≡◌ {A = AstExpr-F AstExpr} (AstExpr-F.Bool w 0) (AstExpr-F.IsNull (bare x2) w2 0) = f ∙ layer-IsNull (e.IsNull x2 w2 s2) x2 w2 s2 refl in cc
-    by_which _ (is_Binary o2 l2 r2 s2) never f = let g : ◌≡◌ {A = AstExpr-F AstExpr} (AstExpr-F.Bool w 0) (AstExpr-F.Binary o2 (bare l2) (bare r2) 0) = f ∙ layer-Binary (e.Binary o2 l2 r2 s2) o2 l2 r2 s2 refl in cc
+    by_which _ (is_Binary o2 l2 r2 s2) never f = let g : ◌≡◌ {A = AstExpr-F AstExpr} (AstExpr-F.Bool w 0) (AstExpr-F.Binary o2 0 (bare l2) (bare r2)) = f ∙ layer-Binary (e.Binary o2 s2 l2 r2) o2 l2 r2 s2 refl in cc
 
-pub other-Name : (a b : AstExpr) (n : List ℕ) (s : ℕ) → a ≡ e.Name n s → ((n2 : List ℕ) (s2 : ℕ) → b ≡ e.Name n2 s2 → ⊥) → bare a ≡ bare b → ⊥
+pub other-Name : (a b : AstExpr) (n : List ℕ) (s : ℕ) → a ≡ e.Name s n → ((n2 : List ℕ) (s2 : ℕ) → b ≡ e.Name s2 n2 → ⊥) → bare a ≡ bare b → ⊥
 other-Name a b n s q never same = by_which b (which b) never (sym (layer-Name a n s q) ∙ ap out-AstExpr same)
   where
-    by_which : (b : AstExpr) → Is b → ((n2 : List ℕ) (s2 : ℕ) → b ≡ e.Name n2 s2 → ⊥) → ◌≡◌ {A = AstExpr-F AstExpr} (AstExpr-F.Name n 0) (out-AstExpr (bare b)) → ⊥
-    by_which _ (is_Int n2 s2) never f = let g : ◌≡◌ {A = AstExpr-F AstExpr} (AstExpr-F.Name n 0) (AstExpr-F.Int n2 0) = f ∙ layer-Int (e.Int n2 s2) n2 s2 refl in cc
-    by_which _ (is_Text c2 s2) never f = let g : ◌≡◌ {A = AstExpr-F AstExpr} (AstExpr-F.Name n 0) (AstExpr-F.Text c2 0) = f ∙ layer-Text (e.Text c2 s2) c2 s2 refl in cc
-    by_which _ (is_Date c2 s2) never f = let g : ◌≡◌ {A = AstExpr-F AstExpr} (AstExpr-F.Name n 0) (AstExpr-F.Date c2 0) = f ∙ layer-Date (e.Date c2 s2) c2 s2 refl in cc
-    by_which _ (is_Bool w2 s2) never f = let g : ◌≡◌ {A = AstExpr-F AstExpr} (AstExpr-F.Name n 0) (AstExpr-F.Bool w2 0) = f ∙ layer-Bool (e.Bool w2 s2) w2 s2 refl in cc
+    by_which : (b : AstExpr) → Is b → ((n2 : List ℕ) (s2 : ℕ) → b ≡ e.Name s2 n2 → ⊥) → ◌≡◌ {A = AstExpr-F AstExpr} (AstExpr-F.Name 0 n) (out-AstExpr (bare b)) → ⊥
+    by_which _ (is_Int n2 s2) never f = let g : ◌≡◌ {A = AstExpr-F AstExpr} (AstExpr-F.Name 0 n) (AstExpr-F.Int n2 0) = f ∙ layer-Int (e.Int n2 s2) n2 s2 refl in cc
+    by_which _ (is_Text c2 s2) never f = let g : ◌≡◌ {A = AstExpr-F AstExpr} (AstExpr-F.Name 0 n) (AstExpr-F.Text c2 0) = f ∙ layer-Text (e.Text c2 s2) c2 s2 refl in cc
+    by_which _ (is_Date c2 s2) never f = let g : ◌≡◌ {A = AstExpr-F AstExpr} (AstExpr-F.Name 0 n) (AstExpr-F.Date c2 0) = f ∙ layer-Date (e.Date c2 s2) c2 s2 refl in cc
+    by_which _ (is_Bool w2 s2) never f = let g : ◌≡◌ {A = AstExpr-F AstExpr} (AstExpr-F.Name 0 n) (AstExpr-F.Bool w2 0) = f ∙ layer-Bool (e.Bool w2 s2) w2 s2 refl in cc
     by_which _ (is_Name n2 s2) never f = never n2 s2 refl
-    by_which _ (is_Property v2 p2 s2) never f = let g : ◌≡◌ {A = AstExpr-F AstExpr} (AstExpr-F.Name n 0) (AstExpr-F.Property v2 p2 0) = f ∙ layer-Property (e.Property v2 p2 s2) v2 p2 s2 refl in cc
-    by_which _ (is_Id v2 s2) never f = let g : ◌≡◌ {A = AstExpr-F AstExpr} (AstExpr-F.Name n 0) (AstExpr-F.Id (bare_name v2) 0) = f ∙ layer-Id (e.Id v2 s2) v2 s2 refl in cc
-    by_which _ (is_Label v2 s2) never f = let g : ◌≡◌ {A = AstExpr-F AstExpr} (AstExpr-F.Name n 0) (AstExpr-F.Label (bare_name v2) 0) = f ∙ layer-Label (e.Label v2 s2) v2 s2 refl in cc
-    by_which _ (is_Not x2 s2) never f = let g : ◌≡◌ {A = AstExpr-F AstExpr} (AstExpr-F.Name n 0) (AstExpr-F.Not (bare x2) 0) = f ∙ layer-Not (e.Not x2 s2) x2 s2 refl in cc
-    by_which _ (is_Neg x2 s2) never f = let g : ◌≡◌ {A = AstExpr-F AstExpr} (AstExpr-F.Name n 0) (AstExpr-F.Neg (bare x2) 0) = f ∙ layer-Neg (e.Neg x2 s2) x2 s2 refl in cc
-    by_which _ (is_IsNull x2 w2 s2) never f = let g : ◌≡◌ {A = AstExpr-F AstExpr} (AstExpr-F.Name n 0) (AstExpr-F.IsNull (bare x2) w2 0) = f ∙ layer-IsNull (e.IsNull x2 w2 s2) x2 w2 s2 refl in cc
-    by_which _ (is_Binary o2 l2 r2 s2) never f = let g : ◌≡◌ {A = AstExpr-F AstExpr} (AstExpr-F.Name n 0) (AstExpr-F.Binary o2 (bare l2) (bare r2) 0) = f ∙ layer-Binary (e.Binary o2 l2 r2 s2) o2 l2 r2 s2 refl in cc
+    by_which _ (is_Property v2 p2 s2) never f = let g : ◌≡◌ {A = AstExpr-F AstExpr} (AstExpr-F.Name 0 n) (AstExpr-F.Property 0 v2 p2) = f ∙ layer-Property (e.Property s2 v2 p2) v2 p2 s2 refl in cc
+    by_which _ (is_Id v2 s2) never f = let g : ◌≡◌ {A = AstExpr-F AstExpr} (AstExpr-F.Name 0 n) (AstExpr-F.Id (bare_name v2) 0) = f ∙ layer-Id (e.Id v2 s2) v2 s2 refl in cc
+    by_which _ (is_Label v2 s2) never f = let g : ◌≡◌ {A = AstExpr-F AstExpr} (AstExpr-F.Name 0 n) (AstExpr-F.Label (bare_name v2) 0) = f ∙ layer-Label (e.Label v2 s2) v2 s2 refl in cc
+    by_which _ (is_Not x2 s2) never f = let g : ◌≡◌ {A = AstExpr-F AstExpr} (AstExpr-F.Name 0 n) (AstExpr-F.Not (bare x2) 0) = f ∙ layer-Not (e.Not x2 s2) x2 s2 refl in cc
+    by_which _ (is_Neg x2 s2) never f = let g : ◌≡◌ {A = AstExpr-F AstExpr} (AstExpr-F.Name 0 n) (AstExpr-F.Neg (bare x2) 0) = f ∙ layer-Neg (e.Neg x2 s2) x2 s2 refl in cc
+    by_which _ (is_IsNull x2 w2 s2) never f = let g : ◌≡◌ {A = AstExpr-F AstExpr} (AstExpr-F.Name 0 n) (AstExpr-F.IsNull (bare x2) w2 0) = f ∙ layer-IsNull (e.IsNull x2 w2 s2) x2 w2 s2 refl in cc
+    by_which _ (is_Binary o2 l2 r2 s2) never f = let g : ◌≡◌ {A = AstExpr-F AstExpr} (AstExpr-F.Name 0 n) (AstExpr-F.Binary o2 0 (bare l2) (bare r2)) = f ∙ layer-Binary (e.Binary o2 s2 l2 r2) o2 l2 r2 s2 refl in cc
 
-pub other-Property : (a b : AstExpr) (v : List ℕ) (p : List ℕ) (s : ℕ) → a ≡ e.Property v p s → ((v2 : List ℕ) (p2 : List ℕ) (s2 : ℕ) → b ≡ e.Property v2 p2 s2 → ⊥) → bare a ≡ bare b → ⊥
+pub other-Property : (a b : AstExpr) (v : List ℕ) (p : List ℕ) (s : ℕ) → a ≡ e.Property s v p → ((v2 : List ℕ) (p2 : List ℕ) (s2 : ℕ) → b ≡ e.Property s2 v2 p2 → ⊥) → bare a ≡ bare b → ⊥
 other-Property a b v p s q never same = by_which b (which b) never (sym (layer-Property a v p s q) ∙ ap out-AstExpr same)
   where
-    by_which : (b : AstExpr) → Is b → ((v2 : List ℕ) (p2 : List ℕ) (s2 : ℕ) → b ≡ e.Property v2 p2 s2 → ⊥) → ◌≡◌ {A = AstExpr-F AstExpr} (AstExpr-F.Property v p 0) (out-AstExpr (bare b)) → ⊥
-    by_which _ (is_Int n2 s2) never f = let g : ◌≡◌ {A = AstExpr-F AstExpr} (AstExpr-F.Property v p 0) (AstExpr-F.Int n2 0) = f ∙ layer-Int (e.Int n2 s2) n2 s2 refl in cc
-    by_which _ (is_Text c2 s2) never f = let g : ◌≡◌ {A = AstExpr-F AstExpr} (AstExpr-F.Property v p 0) (AstExpr-F.Text c2 0) = f ∙ layer-Text (e.Text c2 s2) c2 s2 refl in cc
-    by_which _ (is_Date c2 s2) never f = let g : ◌≡◌ {A = AstExpr-F AstExpr} (AstExpr-F.Property v p 0) (AstExpr-F.Date c2 0) = f ∙ layer-Date (e.Date c2 s2) c2 s2 refl in cc
-    by_which _ (is_Bool w2 s2) never f = let g : ◌≡◌ {A = AstExpr-F AstExpr} (AstExpr-F.Property v p 0) (AstExpr-F.Bool w2 0) = f ∙ layer-Bool (e.Bool w2 s2) w2 s2 refl in cc
-    by_which _ (is_Name n2 s2) never f = let g : ◌≡◌ {A = AstExpr-F AstExpr} (AstExpr-F.Property v p 0) (AstExpr-F.Name n2 0) = f ∙ layer-Name (e.Name n2 s2) n2 s2 refl in cc
+    by_which : (b : AstExpr) → Is b → ((v2 : List ℕ) (p2 : List ℕ) (s2 : ℕ) → b ≡ e.Property s2 v2 p2 → ⊥) → ◌≡◌ {A = AstExpr-F AstExpr} (AstExpr-F.Property 0 v p) (out-AstExpr (bare b)) → ⊥
+    by_which _ (is_Int n2 s2) never f = let g : ◌≡◌ {A = AstExpr-F AstExpr} (AstExpr-F.Property 0 v p) (AstExpr-F.Int n2 0) = f ∙ layer-Int (e.Int n2 s2) n2 s2 refl in cc
+    by_which _ (is_Text c2 s2) never f = let g : ◌≡◌ {A = AstExpr-F AstExpr} (AstExpr-F.Property 0 v p) (AstExpr-F.Text c2 0) = f ∙ layer-Text (e.Text c2 s2) c2 s2 refl in cc
+    by_which _ (is_Date c2 s2) never f = let g : ◌≡◌ {A = AstExpr-F AstExpr} (AstExpr-F.Property 0 v p) (AstExpr-F.Date c2 0) = f ∙ layer-Date (e.Date c2 s2) c2 s2 refl in cc
+    by_which _ (is_Bool w2 s2) never f = let g : ◌≡◌ {A = AstExpr-F AstExpr} (AstExpr-F.Property 0 v p) (AstExpr-F.Bool w2 0) = f ∙ layer-Bool (e.Bool w2 s2) w2 s2 refl in cc
+    by_which _ (is_Name n2 s2) never f = let g : ◌≡◌ {A = AstExpr-F AstExpr} (AstExpr-F.Property 0 v p) (AstExpr-F.Name 0 n2) = f ∙ layer-Name (e.Name s2 n2) n2 s2 refl in cc
     by_which _ (is_Property v2 p2 s2) never f = never v2 p2 s2 refl
-    by_which _ (is_Id v2 s2) never f = let g : ◌≡◌ {A = AstExpr-F AstExpr} (AstExpr-F.Property v p 0) (AstExpr-F.Id (bare_name v2) 0) = f ∙ layer-Id (e.Id v2 s2) v2 s2 refl in cc
-    by_which _ (is_Label v2 s2) never f = let g : ◌≡◌ {A = AstExpr-F AstExpr} (AstExpr-F.Property v p 0) (AstExpr-F.Label (bare_name v2) 0) = f ∙ layer-Label (e.Label v2 s2) v2 s2 refl in cc
-    by_which _ (is_Not x2 s2) never f = let g : ◌≡◌ {A = AstExpr-F AstExpr} (AstExpr-F.Property v p 0) (AstExpr-F.Not (bare x2) 0) = f ∙ layer-Not (e.Not x2 s2) x2 s2 refl in cc
-    by_which _ (is_Neg x2 s2) never f = let g : ◌≡◌ {A = AstExpr-F AstExpr} (AstExpr-F.Property v p 0) (AstExpr-F.Neg (bare x2) 0) = f ∙ layer-Neg (e.Neg x2 s2) x2 s2 refl in cc
-    by_which _ (is_IsNull x2 w2 s2) never f = let g : ◌≡◌ {A = AstExpr-F AstExpr} (AstExpr-F.Property v p 0) (AstExpr-F.IsNull (bare x2) w2 0) = f ∙ layer-IsNull (e.IsNull x2 w2 s2) x2 w2 s2 refl in cc
-    by_which _ (is_Binary o2 l2 r2 s2) never f = let g : ◌≡◌ {A = AstExpr-F AstExpr} (AstExpr-F.Property v p 0) (AstExpr-F.Binary o2 (bare l2) (bare r2) 0) = f ∙ layer-Binary (e.Binary o2 l2 r2 s2) o2 l2 r2 s2 refl in cc
+    by_which _ (is_Id v2 s2) never f = let g : ◌≡◌ {A = AstExpr-F AstExpr} (AstExpr-F.Property 0 v p) (AstExpr-F.Id (bare_name v2) 0) = f ∙ layer-Id (e.Id v2 s2) v2 s2 refl in cc
+    by_which _ (is_Label v2 s2) never f = let g : ◌≡◌ {A = AstExpr-F AstExpr} (AstExpr-F.Property 0 v p) (AstExpr-F.Label (bare_name v2) 0) = f ∙ layer-Label (e.Label v2 s2) v2 s2 refl in cc
+    by_which _ (is_Not x2 s2) never f = let g : ◌≡◌ {A = AstExpr-F AstExpr} (AstExpr-F.Property 0 v p) (AstExpr-F.Not (bare x2) 0) = f ∙ layer-Not (e.Not x2 s2) x2 s2 refl in cc
+    by_which _ (is_Neg x2 s2) never f = let g : ◌≡◌ {A = AstExpr-F AstExpr} (AstExpr-F.Property 0 v p) (AstExpr-F.Neg (bare x2) 0) = f ∙ layer-Neg (e.Neg x2 s2) x2 s2 refl in cc
+    by_which _ (is_IsNull x2 w2 s2) never f = let g : ◌≡◌ {A = AstExpr-F AstExpr} (AstExpr-F.Property 0 v p) (AstExpr-F.IsNull (bare x2) w2 0) = f ∙ layer-IsNull (e.IsNull x2 w2 s2) x2 w2 s2 refl in cc
+    by_which _ (is_Binary o2 l2 r2 s2) never f = let g : ◌≡◌ {A = AstExpr-F AstExpr} (AstExpr-F.Property 0 v p) (AstExpr-F.Binary o2 0 (bare l2) (bare r2)) = f ∙ layer-Binary (e.Binary o2 s2 l2 r2) o2 l2 r2 s2 refl in cc
 
 pub other-Id : (a b : AstExpr) (v : Placed) (s : ℕ) → a ≡ e.Id v s → ((v2 : Placed) (s2 : ℕ) → b ≡ e.Id v2 s2 → ⊥) → bare a ≡ bare b → ⊥
 other-Id a b v s q never same = by_which b (which b) never (sym (layer-Id a v s q) ∙ ap out-AstExpr same)
@@ -288,14 +288,14 @@ other-Id a b v s q never same = by_which b (which b) never (sym (layer-Id a v s 
     by_which _ (is_Text c2 s2) never f = let g : ◌≡◌ {A = AstExpr-F AstExpr} (AstExpr-F.Id (bare_name v) 0) (AstExpr-F.Text c2 0) = f ∙ layer-Text (e.Text c2 s2) c2 s2 refl in cc
     by_which _ (is_Date c2 s2) never f = let g : ◌≡◌ {A = AstExpr-F AstExpr} (AstExpr-F.Id (bare_name v) 0) (AstExpr-F.Date c2 0) = f ∙ layer-Date (e.Date c2 s2) c2 s2 refl in cc
     by_which _ (is_Bool w2 s2) never f = let g : ◌≡◌ {A = AstExpr-F AstExpr} (AstExpr-F.Id (bare_name v) 0) (AstExpr-F.Bool w2 0) = f ∙ layer-Bool (e.Bool w2 s2) w2 s2 refl in cc
-    by_which _ (is_Name n2 s2) never f = let g : ◌≡◌ {A = AstExpr-F AstExpr} (AstExpr-F.Id (bare_name v) 0) (AstExpr-F.Name n2 0) = f ∙ layer-Name (e.Name n2 s2) n2 s2 refl in cc
-    by_which _ (is_Property v2 p2 s2) never f = let g : ◌≡◌ {A = AstExpr-F AstExpr} (AstExpr-F.Id (bare_name v) 0) (AstExpr-F.Property v2 p2 0) = f ∙ layer-Property (e.Property v2 p2 s2) v2 p2 s2 refl in cc
+    by_which _ (is_Name n2 s2) never f = let g : ◌≡◌ {A = AstExpr-F AstExpr} (AstExpr-F.Id (bare_name v) 0) (AstExpr-F.Name 0 n2) = f ∙ layer-Name (e.Name s2 n2) n2 s2 refl in cc
+    by_which _ (is_Property v2 p2 s2) never f = let g : ◌≡◌ {A = AstExpr-F AstExpr} (AstExpr-F.Id (bare_name v) 0) (AstExpr-F.Property 0 v2 p2) = f ∙ layer-Property (e.Property s2 v2 p2) v2 p2 s2 refl in cc
     by_which _ (is_Id v2 s2) never f = never v2 s2 refl
     by_which _ (is_Label v2 s2) never f = let g : ◌≡◌ {A = AstExpr-F AstExpr} (AstExpr-F.Id (bare_name v) 0) (AstExpr-F.Label (bare_name v2) 0) = f ∙ layer-Label (e.Label v2 s2) v2 s2 refl in cc
     by_which _ (is_Not x2 s2) never f = let g : ◌≡◌ {A = AstExpr-F AstExpr} (AstExpr-F.Id (bare_name v) 0) (AstExpr-F.Not (bare x2) 0) = f ∙ layer-Not (e.Not x2 s2) x2 s2 refl in cc
     by_which _ (is_Neg x2 s2) never f = let g : ◌≡◌ {A = AstExpr-F AstExpr} (AstExpr-F.Id (bare_name v) 0) (AstExpr-F.Neg (bare x2) 0) = f ∙ layer-Neg (e.Neg x2 s2) x2 s2 refl in cc
     by_which _ (is_IsNull x2 w2 s2) never f = let g : ◌≡◌ {A = AstExpr-F AstExpr} (AstExpr-F.Id (bare_name v) 0) (AstExpr-F.IsNull (bare x2) w2 0) = f ∙ layer-IsNull (e.IsNull x2 w2 s2) x2 w2 s2 refl in cc
-    by_which _ (is_Binary o2 l2 r2 s2) never f = let g : ◌≡◌ {A = AstExpr-F AstExpr} (AstExpr-F.Id (bare_name v) 0) (AstExpr-F.Binary o2 (bare l2) (bare r2) 0) = f ∙ layer-Binary (e.Binary o2 l2 r2 s2) o2 l2 r2 s2 refl in cc
+    by_which _ (is_Binary o2 l2 r2 s2) never f = let g : ◌≡◌ {A = AstExpr-F AstExpr} (AstExpr-F.Id (bare_name v) 0) (AstExpr-F.Binary o2 0 (bare l2) (bare r2)) = f ∙ layer-Binary (e.Binary o2 s2 l2 r2) o2 l2 r2 s2 refl in cc
 
 pub other-Label : (a b : AstExpr) (v : Placed) (s : ℕ) → a ≡ e.Label v s → ((v2 : Placed) (s2 : ℕ) → b ≡ e.Label v2 s2 → ⊥) → bare a ≡ bare b → ⊥
 other-Label a b v s q never same = by_which b (which b) never (sym (layer-Label a v s q) ∙ ap out-AstExpr same)
@@ -305,14 +305,14 @@ other-Label a b v s q never same = by_which b (which b) never (sym (layer-Label 
     by_which _ (is_Text c2 s2) never f = let g : ◌≡◌ {A = AstExpr-F AstExpr} (AstExpr-F.Label (bare_name v) 0) (AstExpr-F.Text c2 0) = f ∙ layer-Text (e.Text c2 s2) c2 s2 refl in cc
     by_which _ (is_Date c2 s2) never f = let g : ◌≡◌ {A = AstExpr-F AstExpr} (AstExpr-F.Label (bare_name v) 0) (AstExpr-F.Date c2 0) = f ∙ layer-Date (e.Date c2 s2) c2 s2 refl in cc
     by_which _ (is_Bool w2 s2) never f = let g : ◌≡◌ {A = AstExpr-F AstExpr} (AstExpr-F.Label (bare_name v) 0) (AstExpr-F.Bool w2 0) = f ∙ layer-Bool (e.Bool w2 s2) w2 s2 refl in cc
-    by_which _ (is_Name n2 s2) never f = let g : ◌≡◌ {A = AstExpr-F AstExpr} (AstExpr-F.Label (bare_name v) 0) (AstExpr-F.Name n2 0) = f ∙ layer-Name (e.Name n2 s2) n2 s2 refl in cc
-    by_which _ (is_Property v2 p2 s2) never f = let g : ◌≡◌ {A = AstExpr-F AstExpr} (AstExpr-F.Label (bare_name v) 0) (AstExpr-F.Property v2 p2 0) = f ∙ layer-Property (e.Property v2 p2 s2) v2 p2 s2 refl in cc
+    by_which _ (is_Name n2 s2) never f = let g : ◌≡◌ {A = AstExpr-F AstExpr} (AstExpr-F.Label (bare_name v) 0) (AstExpr-F.Name 0 n2) = f ∙ layer-Name (e.Name s2 n2) n2 s2 refl in cc
+    by_which _ (is_Property v2 p2 s2) never f = let g : ◌≡◌ {A = AstExpr-F AstExpr} (AstExpr-F.Label (bare_name v) 0) (AstExpr-F.Property 0 v2 p2) = f ∙ layer-Property (e.Property s2 v2 p2) v2 p2 s2 refl in cc
     by_which _ (is_Id v2 s2) never f = let g : ◌≡◌ {A = AstExpr-F AstExpr} (AstExpr-F.Label (bare_name v) 0) (AstExpr-F.Id (bare_name v2) 0) = f ∙ layer-Id (e.Id v2 s2) v2 s2 refl in cc
     by_which _ (is_Label v2 s2) never f = never v2 s2 refl
     by_which _ (is_Not x2 s2) never f = let g : ◌≡◌ {A = AstExpr-F AstExpr} (AstExpr-F.Label (bare_name v) 0) (AstExpr-F.Not (bare x2) 0) = f ∙ layer-Not (e.Not x2 s2) x2 s2 refl in cc
     by_which _ (is_Neg x2 s2) never f = let g : ◌≡◌ {A = AstExpr-F AstExpr} (AstExpr-F.Label (bare_name v) 0) (AstExpr-F.Neg (bare x2) 0) = f ∙ layer-Neg (e.Neg x2 s2) x2 s2 refl in cc
     by_which _ (is_IsNull x2 w2 s2) never f = let g : ◌≡◌ {A = AstExpr-F AstExpr} (AstExpr-F.Label (bare_name v) 0) (AstExpr-F.IsNull (bare x2) w2 0) = f ∙ layer-IsNull (e.IsNull x2 w2 s2) x2 w2 s2 refl in cc
-    by_which _ (is_Binary o2 l2 r2 s2) never f = let g : ◌≡◌ {A = AstExpr-F AstExpr} (AstExpr-F.Label (bare_name v) 0) (AstExpr-F.Binary o2 (bare l2) (bare r2) 0) = f ∙ layer-Binary (e.Binary o2 l2 r2 s2) o2 l2 r2 s2 refl in cc
+    by_which _ (is_Binary o2 l2 r2 s2) never f = let g : ◌≡◌ {A = AstExpr-F AstExpr} (AstExpr-F.Label (bare_name v) 0) (AstExpr-F.Binary o2 0 (bare l2) (bare r2)) = f ∙ layer-Binary (e.Binary o2 s2 l2 r2) o2 l2 r2 s2 refl in cc
 
 pub other-Not : (a b : AstExpr) (x : AstExpr) (s : ℕ) → a ≡ e.Not x s → ((x2 : AstExpr) (s2 : ℕ) → b ≡ e.Not x2 s2 → ⊥) → bare a ≡ bare b → ⊥
 other-Not a b x s q never same = by_which b (which b) never (sym (layer-Not a x s q) ∙ ap out-AstExpr same)
@@ -322,14 +322,14 @@ other-Not a b x s q never same = by_which b (which b) never (sym (layer-Not a x 
     by_which _ (is_Text c2 s2) never f = let g : ◌≡◌ {A = AstExpr-F AstExpr} (AstExpr-F.Not (bare x) 0) (AstExpr-F.Text c2 0) = f ∙ layer-Text (e.Text c2 s2) c2 s2 refl in cc
     by_which _ (is_Date c2 s2) never f = let g : ◌≡◌ {A = AstExpr-F AstExpr} (AstExpr-F.Not (bare x) 0) (AstExpr-F.Date c2 0) = f ∙ layer-Date (e.Date c2 s2) c2 s2 refl in cc
     by_which _ (is_Bool w2 s2) never f = let g : ◌≡◌ {A = AstExpr-F AstExpr} (AstExpr-F.Not (bare x) 0) (AstExpr-F.Bool w2 0) = f ∙ layer-Bool (e.Bool w2 s2) w2 s2 refl in cc
-    by_which _ (is_Name n2 s2) never f = let g : ◌≡◌ {A = AstExpr-F AstExpr} (AstExpr-F.Not (bare x) 0) (AstExpr-F.Name n2 0) = f ∙ layer-Name (e.Name n2 s2) n2 s2 refl in cc
-    by_which _ (is_Property v2 p2 s2) never f = let g : ◌≡◌ {A = AstExpr-F AstExpr} (AstExpr-F.Not (bare x) 0) (AstExpr-F.Property v2 p2 0) = f ∙ layer-Property (e.Property v2 p2 s2) v2 p2 s2 refl in cc
+    by_which _ (is_Name n2 s2) never f = let g : ◌≡◌ {A = AstExpr-F AstExpr} (AstExpr-F.Not (bare x) 0) (AstExpr-F.Name 0 n2) = f ∙ layer-Name (e.Name s2 n2) n2 s2 refl in cc
+    by_which _ (is_Property v2 p2 s2) never f = let g : ◌≡◌ {A = AstExpr-F AstExpr} (AstExpr-F.Not (bare x) 0) (AstExpr-F.Property 0 v2 p2) = f ∙ layer-Property (e.Property s2 v2 p2) v2 p2 s2 refl in cc
     by_which _ (is_Id v2 s2) never f = let g : ◌≡◌ {A = AstExpr-F AstExpr} (AstExpr-F.Not (bare x) 0) (AstExpr-F.Id (bare_name v2) 0) = f ∙ layer-Id (e.Id v2 s2) v2 s2 refl in cc
     by_which _ (is_Label v2 s2) never f = let g : ◌≡◌ {A = AstExpr-F AstExpr} (AstExpr-F.Not (bare x) 0) (AstExpr-F.Label (bare_name v2) 0) = f ∙ layer-Label (e.Label v2 s2) v2 s2 refl in cc
     by_which _ (is_Not x2 s2) never f = never x2 s2 refl
     by_which _ (is_Neg x2 s2) never f = let g : ◌≡◌ {A = AstExpr-F AstExpr} (AstExpr-F.Not (bare x) 0) (AstExpr-F.Neg (bare x2) 0) = f ∙ layer-Neg (e.Neg x2 s2) x2 s2 refl in cc
     by_which _ (is_IsNull x2 w2 s2) never f = let g : ◌≡◌ {A = AstExpr-F AstExpr} (AstExpr-F.Not (bare x) 0) (AstExpr-F.IsNull (bare x2) w2 0) = f ∙ layer-IsNull (e.IsNull x2 w2 s2) x2 w2 s2 refl in cc
-    by_which _ (is_Binary o2 l2 r2 s2) never f = let g : ◌≡◌ {A = AstExpr-F AstExpr} (AstExpr-F.Not (bare x) 0) (AstExpr-F.Binary o2 (bare l2) (bare r2) 0) = f ∙ layer-Binary (e.Binary o2 l2 r2 s2) o2 l2 r2 s2 refl in cc
+    by_which _ (is_Binary o2 l2 r2 s2) never f = let g : ◌≡◌ {A = AstExpr-F AstExpr} (AstExpr-F.Not (bare x) 0) (AstExpr-F.Binary o2 0 (bare l2) (bare r2)) = f ∙ layer-Binary (e.Binary o2 s2 l2 r2) o2 l2 r2 s2 refl in cc
 
 pub other-Neg : (a b : AstExpr) (x : AstExpr) (s : ℕ) → a ≡ e.Neg x s → ((x2 : AstExpr) (s2 : ℕ) → b ≡ e.Neg x2 s2 → ⊥) → bare a ≡ bare b → ⊥
 other-Neg a b x s q never same = by_which b (which b) never (sym (layer-Neg a x s q) ∙ ap out-AstExpr same)
@@ -339,14 +339,14 @@ other-Neg a b x s q never same = by_which b (which b) never (sym (layer-Neg a x 
     by_which _ (is_Text c2 s2) never f = let g : ◌≡◌ {A = AstExpr-F AstExpr} (AstExpr-F.Neg (bare x) 0) (AstExpr-F.Text c2 0) = f ∙ layer-Text (e.Text c2 s2) c2 s2 refl in cc
     by_which _ (is_Date c2 s2) never f = let g : ◌≡◌ {A = AstExpr-F AstExpr} (AstExpr-F.Neg (bare x) 0) (AstExpr-F.Date c2 0) = f ∙ layer-Date (e.Date c2 s2) c2 s2 refl in cc
     by_which _ (is_Bool w2 s2) never f = let g : ◌≡◌ {A = AstExpr-F AstExpr} (AstExpr-F.Neg (bare x) 0) (AstExpr-F.Bool w2 0) = f ∙ layer-Bool (e.Bool w2 s2) w2 s2 refl in cc
-    by_which _ (is_Name n2 s2) never f = let g : ◌≡◌ {A = AstExpr-F AstExpr} (AstExpr-F.Neg (bare x) 0) (AstExpr-F.Name n2 0) = f ∙ layer-Name (e.Name n2 s2) n2 s2 refl in cc
-    by_which _ (is_Property v2 p2 s2) never f = let g : ◌≡◌ {A = AstExpr-F AstExpr} (AstExpr-F.Neg (bare x) 0) (AstExpr-F.Property v2 p2 0) = f ∙ layer-Property (e.Property v2 p2 s2) v2 p2 s2 refl in cc
+    by_which _ (is_Name n2 s2) never f = let g : ◌≡◌ {A = AstExpr-F AstExpr} (AstExpr-F.Neg (bare x) 0) (AstExpr-F.Name 0 n2) = f ∙ layer-Name (e.Name s2 n2) n2 s2 refl in cc
+    by_which _ (is_Property v2 p2 s2) never f = let g : ◌≡◌ {A = AstExpr-F AstExpr} (AstExpr-F.Neg (bare x) 0) (AstExpr-F.Property 0 v2 p2) = f ∙ layer-Property (e.Property s2 v2 p2) v2 p2 s2 refl in cc
     by_which _ (is_Id v2 s2) never f = let g : ◌≡◌ {A = AstExpr-F AstExpr} (AstExpr-F.Neg (bare x) 0) (AstExpr-F.Id (bare_name v2) 0) = f ∙ layer-Id (e.Id v2 s2) v2 s2 refl in cc
     by_which _ (is_Label v2 s2) never f = let g : ◌≡◌ {A = AstExpr-F AstExpr} (AstExpr-F.Neg (bare x) 0) (AstExpr-F.Label (bare_name v2) 0) = f ∙ layer-Label (e.Label v2 s2) v2 s2 refl in cc
     by_which _ (is_Not x2 s2) never f = let g : ◌≡◌ {A = AstExpr-F AstExpr} (AstExpr-F.Neg (bare x) 0) (AstExpr-F.Not (bare x2) 0) = f ∙ layer-Not (e.Not x2 s2) x2 s2 refl in cc
     by_which _ (is_Neg x2 s2) never f = never x2 s2 refl
     by_which _ (is_IsNull x2 w2 s2) never f = let g : ◌≡◌ {A = AstExpr-F AstExpr} (AstExpr-F.Neg (bare x) 0) (AstExpr-F.IsNull (bare x2) w2 0) = f ∙ layer-IsNull (e.IsNull x2 w2 s2) x2 w2 s2 refl in cc
-    by_which _ (is_Binary o2 l2 r2 s2) never f = let g : ◌≡◌ {A = AstExpr-F AstExpr} (AstExpr-F.Neg (bare x) 0) (AstExpr-F.Binary o2 (bare l2) (bare r2) 0) = f ∙ layer-Binary (e.Binary o2 l2 r2 s2) o2 l2 r2 s2 refl in cc
+    by_which _ (is_Binary o2 l2 r2 s2) never f = let g : ◌≡◌ {A = AstExpr-F AstExpr} (AstExpr-F.Neg (bare x) 0) (AstExpr-F.Binary o2 0 (bare l2) (bare r2)) = f ∙ layer-Binary (e.Binary o2 s2 l2 r2) o2 l2 r2 s2 refl in cc
 
 pub other-IsNull : (a b : AstExpr) (x : AstExpr) (w : Bool) (s : ℕ) → a ≡ e.IsNull x w s → ((x2 : AstExpr) (w2 : Bool) (s2 : ℕ) → b ≡ e.IsNull x2 w2 s2 → ⊥) → bare a ≡ bare b → ⊥
 other-IsNull a b x w s q never same = by_which b (which b) never (sym (layer-IsNull a x w s q) ∙ ap out-AstExpr same)
@@ -356,30 +356,30 @@ other-IsNull a b x w s q never same = by_which b (which b) never (sym (layer-IsN
     by_which _ (is_Text c2 s2) never f = let g : ◌≡◌ {A = AstExpr-F AstExpr} (AstExpr-F.IsNull (bare x) w 0) (AstExpr-F.Text c2 0) = f ∙ layer-Text (e.Text c2 s2) c2 s2 refl in cc
     by_which _ (is_Date c2 s2) never f = let g : ◌≡◌ {A = AstExpr-F AstExpr} (AstExpr-F.IsNull (bare x) w 0) (AstExpr-F.Date c2 0) = f ∙ layer-Date (e.Date c2 s2) c2 s2 refl in cc
     by_which _ (is_Bool w2 s2) never f = let g : ◌≡◌ {A = AstExpr-F AstExpr} (AstExpr-F.IsNull (bare x) w 0) (AstExpr-F.Bool w2 0) = f ∙ layer-Bool (e.Bool w2 s2) w2 s2 refl in cc
-    by_which _ (is_Name n2 s2) never f = let g : ◌≡◌ {A = AstExpr-F AstExpr} (AstExpr-F.IsNull (bare x) w 0) (AstExpr-F.Name n2 0) = f ∙ layer-Name (e.Name n2 s2) n2 s2 refl in cc
-    by_which _ (is_Property v2 p2 s2) never f = let g : ◌≡◌ {A = AstExpr-F AstExpr} (AstExpr-F.IsNull (bare x) w 0) (AstExpr-F.Property v2 p2 0) = f ∙ layer-Property (e.Property v2 p2 s2) v2 p2 s2 refl in cc
+    by_which _ (is_Name n2 s2) never f = let g : ◌≡◌ {A = AstExpr-F AstExpr} (AstExpr-F.IsNull (bare x) w 0) (AstExpr-F.Name 0 n2) = f ∙ layer-Name (e.Name s2 n2) n2 s2 refl in cc
+    by_which _ (is_Property v2 p2 s2) never f = let g : ◌≡◌ {A = AstExpr-F AstExpr} (AstExpr-F.IsNull (bare x) w 0) (AstExpr-F.Property 0 v2 p2) = f ∙ layer-Property (e.Property s2 v2 p2) v2 p2 s2 refl in cc
     by_which _ (is_Id v2 s2) never f = let g : ◌≡◌ {A = AstExpr-F AstExpr} (AstExpr-F.IsNull (bare x) w 0) (AstExpr-F.Id (bare_name v2) 0) = f ∙ layer-Id (e.Id v2 s2) v2 s2 refl in cc
     by_which _ (is_Label v2 s2) never f = let g : ◌≡◌ {A = AstExpr-F AstExpr} (AstExpr-F.IsNull (bare x) w 0) (AstExpr-F.Label (bare_name v2) 0) = f ∙ layer-Label (e.Label v2 s2) v2 s2 refl in cc
     by_which _ (is_Not x2 s2) never f = let g : ◌≡◌ {A = AstExpr-F AstExpr} (AstExpr-F.IsNull (bare x) w 0) (AstExpr-F.Not (bare x2) 0) = f ∙ layer-Not (e.Not x2 s2) x2 s2 refl in cc
     by_which _ (is_Neg x2 s2) never f = let g : ◌≡◌ {A = AstExpr-F AstExpr} (AstExpr-F.IsNull (bare x) w 0) (AstExpr-F.Neg (bare x2) 0) = f ∙ layer-Neg (e.Neg x2 s2) x2 s2 refl in cc
     by_which _ (is_IsNull x2 w2 s2) never f = never x2 w2 s2 refl
-    by_which _ (is_Binary o2 l2 r2 s2) never f = let g : ◌≡◌ {A = AstExpr-F AstExpr} (AstExpr-F.IsNull (bare x) w 0) (AstExpr-F.Binary o2 (bare l2) (bare r2) 0) = f ∙ layer-Binary (e.Binary o2 l2 r2 s2) o2 l2 r2 s2 refl in cc
+    by_which _ (is_Binary o2 l2 r2 s2) never f = let g : ◌≡◌ {A = AstExpr-F AstExpr} (AstExpr-F.IsNull (bare x) w 0) (AstExpr-F.Binary o2 0 (bare l2) (bare r2)) = f ∙ layer-Binary (e.Binary o2 s2 l2 r2) o2 l2 r2 s2 refl in cc
 
-pub other-Binary : (a b : AstExpr) (o : Op) (l : AstExpr) (r : AstExpr) (s : ℕ) → a ≡ e.Binary o l r s → ((o2 : Op) (l2 : AstExpr) (r2 : AstExpr) (s2 : ℕ) → b ≡ e.Binary o2 l2 r2 s2 → ⊥) → bare a ≡ bare b → ⊥
+pub other-Binary : (a b : AstExpr) (o : Op) (l : AstExpr) (r : AstExpr) (s : ℕ) → a ≡ e.Binary o s l r → ((o2 : Op) (l2 : AstExpr) (r2 : AstExpr) (s2 : ℕ) → b ≡ e.Binary o2 s2 l2 r2 → ⊥) → bare a ≡ bare b → ⊥
 other-Binary a b o l r s q never same = by_which b (which b) never (sym (layer-Binary a o l r s q) ∙ ap out-AstExpr same)
   where
-    by_which : (b : AstExpr) → Is b → ((o2 : Op) (l2 : AstExpr) (r2 : AstExpr) (s2 : ℕ) → b ≡ e.Binary o2 l2 r2 s2 → ⊥) → ◌≡◌ {A = AstExpr-F AstExpr} (AstExpr-F.Binary o (bare l) (bare r) 0) (out-AstExpr (bare b)) → ⊥
-    by_which _ (is_Int n2 s2) never f = let g : ◌≡◌ {A = AstExpr-F AstExpr} (AstExpr-F.Binary o (bare l) (bare r) 0) (AstExpr-F.Int n2 0) = f ∙ layer-Int (e.Int n2 s2) n2 s2 refl in cc
-    by_which _ (is_Text c2 s2) never f = let g : ◌≡◌ {A = AstExpr-F AstExpr} (AstExpr-F.Binary o (bare l) (bare r) 0) (AstExpr-F.Text c2 0) = f ∙ layer-Text (e.Text c2 s2) c2 s2 refl in cc
-    by_which _ (is_Date c2 s2) never f = let g : ◌≡◌ {A = AstExpr-F AstExpr} (AstExpr-F.Binary o (bare l) (bare r) 0) (AstExpr-F.Date c2 0) = f ∙ layer-Date (e.Date c2 s2) c2 s2 refl in cc
-    by_which _ (is_Bool w2 s2) never f = let g : ◌≡◌ {A = AstExpr-F AstExpr} (AstExpr-F.Binary o (bare l) (bare r) 0) (AstExpr-F.Bool w2 0) = f ∙ layer-Bool (e.Bool w2 s2) w2 s2 refl in cc
-    by_which _ (is_Name n2 s2) never f = let g : ◌≡◌ {A = AstExpr-F AstExpr} (AstExpr-F.Binary o (bare l) (bare r) 0) (AstExpr-F.Name n2 0) = f ∙ layer-Name (e.Name n2 s2) n2 s2 refl in cc
-    by_which _ (is_Property v2 p2 s2) never f = let g : ◌≡◌ {A = AstExpr-F AstExpr} (AstExpr-F.Binary o (bare l) (bare r) 0) (AstExpr-F.Property v2 p2 0) = f ∙ layer-Property (e.Property v2 p2 s2) v2 p2 s2 refl in cc
-    by_which _ (is_Id v2 s2) never f = let g : ◌≡◌ {A = AstExpr-F AstExpr} (AstExpr-F.Binary o (bare l) (bare r) 0) (AstExpr-F.Id (bare_name v2) 0) = f ∙ layer-Id (e.Id v2 s2) v2 s2 refl in cc
-    by_which _ (is_Label v2 s2) never f = let g : ◌≡◌ {A = AstExpr-F AstExpr} (AstExpr-F.Binary o (bare l) (bare r) 0) (AstExpr-F.Label (bare_name v2) 0) = f ∙ layer-Label (e.Label v2 s2) v2 s2 refl in cc
-    by_which _ (is_Not x2 s2) never f = let g : ◌≡◌ {A = AstExpr-F AstExpr} (AstExpr-F.Binary o (bare l) (bare r) 0) (AstExpr-F.Not (bare x2) 0) = f ∙ layer-Not (e.Not x2 s2) x2 s2 refl in cc
-    by_which _ (is_Neg x2 s2) never f = let g : ◌≡◌ {A = AstExpr-F AstExpr} (AstExpr-F.Binary o (bare l) (bare r) 0) (AstExpr-F.Neg (bare x2) 0) = f ∙ layer-Neg (e.Neg x2 s2) x2 s2 refl in cc
-    by_which _ (is_IsNull x2 w2 s2) never f = let g : ◌≡◌ {A = AstExpr-F AstExpr} (AstExpr-F.Binary o (bare l) (bare r) 0) (AstExpr-F.IsNull (bare x2) w2 0) = f ∙ layer-IsNull (e.IsNull x2 w2 s2) x2 w2 s2 refl in cc
+    by_which : (b : AstExpr) → Is b → ((o2 : Op) (l2 : AstExpr) (r2 : AstExpr) (s2 : ℕ) → b ≡ e.Binary o2 s2 l2 r2 → ⊥) → ◌≡◌ {A = AstExpr-F AstExpr} (AstExpr-F.Binary o 0 (bare l) (bare r)) (out-AstExpr (bare b)) → ⊥
+    by_which _ (is_Int n2 s2) never f = let g : ◌≡◌ {A = AstExpr-F AstExpr} (AstExpr-F.Binary o 0 (bare l) (bare r)) (AstExpr-F.Int n2 0) = f ∙ layer-Int (e.Int n2 s2) n2 s2 refl in cc
+    by_which _ (is_Text c2 s2) never f = let g : ◌≡◌ {A = AstExpr-F AstExpr} (AstExpr-F.Binary o 0 (bare l) (bare r)) (AstExpr-F.Text c2 0) = f ∙ layer-Text (e.Text c2 s2) c2 s2 refl in cc
+    by_which _ (is_Date c2 s2) never f = let g : ◌≡◌ {A = AstExpr-F AstExpr} (AstExpr-F.Binary o 0 (bare l) (bare r)) (AstExpr-F.Date c2 0) = f ∙ layer-Date (e.Date c2 s2) c2 s2 refl in cc
+    by_which _ (is_Bool w2 s2) never f = let g : ◌≡◌ {A = AstExpr-F AstExpr} (AstExpr-F.Binary o 0 (bare l) (bare r)) (AstExpr-F.Bool w2 0) = f ∙ layer-Bool (e.Bool w2 s2) w2 s2 refl in cc
+    by_which _ (is_Name n2 s2) never f = let g : ◌≡◌ {A = AstExpr-F AstExpr} (AstExpr-F.Binary o 0 (bare l) (bare r)) (AstExpr-F.Name 0 n2) = f ∙ layer-Name (e.Name s2 n2) n2 s2 refl in cc
+    by_which _ (is_Property v2 p2 s2) never f = let g : ◌≡◌ {A = AstExpr-F AstExpr} (AstExpr-F.Binary o 0 (bare l) (bare r)) (AstExpr-F.Property 0 v2 p2) = f ∙ layer-Property (e.Property s2 v2 p2) v2 p2 s2 refl in cc
+    by_which _ (is_Id v2 s2) never f = let g : ◌≡◌ {A = AstExpr-F AstExpr} (AstExpr-F.Binary o 0 (bare l) (bare r)) (AstExpr-F.Id (bare_name v2) 0) = f ∙ layer-Id (e.Id v2 s2) v2 s2 refl in cc
+    by_which _ (is_Label v2 s2) never f = let g : ◌≡◌ {A = AstExpr-F AstExpr} (AstExpr-F.Binary o 0 (bare l) (bare r)) (AstExpr-F.Label (bare_name v2) 0) = f ∙ layer-Label (e.Label v2 s2) v2 s2 refl in cc
+    by_which _ (is_Not x2 s2) never f = let g : ◌≡◌ {A = AstExpr-F AstExpr} (AstExpr-F.Binary o 0 (bare l) (bare r)) (AstExpr-F.Not (bare x2) 0) = f ∙ layer-Not (e.Not x2 s2) x2 s2 refl in cc
+    by_which _ (is_Neg x2 s2) never f = let g : ◌≡◌ {A = AstExpr-F AstExpr} (AstExpr-F.Binary o 0 (bare l) (bare r)) (AstExpr-F.Neg (bare x2) 0) = f ∙ layer-Neg (e.Neg x2 s2) x2 s2 refl in cc
+    by_which _ (is_IsNull x2 w2 s2) never f = let g : ◌≡◌ {A = AstExpr-F AstExpr} (AstExpr-F.Binary o 0 (bare l) (bare r)) (AstExpr-F.IsNull (bare x2) w2 0) = f ∙ layer-IsNull (e.IsNull x2 w2 s2) x2 w2 s2 refl in cc
     by_which _ (is_Binary o2 l2 r2 s2) never f = never o2 l2 r2 s2 refl
 
 -- what is told of one is told of whatever is the same

@@ -16,14 +16,14 @@ places_of (AstExpr-F.Int number at) = at ∷ []
 places_of (AstExpr-F.Text content at) = at ∷ []
 places_of (AstExpr-F.Date content at) = at ∷ []
 places_of (AstExpr-F.Bool value at) = at ∷ []
-places_of (AstExpr-F.Name name at) = at ∷ []
-places_of (AstExpr-F.Property variable property at) = at ∷ []
+places_of (AstExpr-F.Name at name) = at ∷ []
+places_of (AstExpr-F.Property at variable property) = at ∷ []
 places_of (AstExpr-F.Id variable at) = at ∷ variable.at ∷ []
 places_of (AstExpr-F.Label variable at) = at ∷ variable.at ∷ []
 places_of (AstExpr-F.Not inside at) = at ∷ inside
 places_of (AstExpr-F.Neg inside at) = at ∷ inside
 places_of (AstExpr-F.IsNull inside negated at) = at ∷ inside
-places_of (AstExpr-F.Binary op left right at) = at ∷ (left ++ right)
+places_of (AstExpr-F.Binary op at left right) = at ∷ (left ++ right)
 
 unfoldable pub places : AstExpr → List ℕ
 places = fold-AstExpr (List ℕ) places_of

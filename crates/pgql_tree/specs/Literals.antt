@@ -12,14 +12,14 @@ literals_of (AstExpr-F.Int number at) = []
 literals_of (AstExpr-F.Text content at) = content ∷ []
 literals_of (AstExpr-F.Date content at) = []
 literals_of (AstExpr-F.Bool truth at) = []
-literals_of (AstExpr-F.Name name at) = []
-literals_of (AstExpr-F.Property variable property at) = []
+literals_of (AstExpr-F.Name at name) = []
+literals_of (AstExpr-F.Property at variable property) = []
 literals_of (AstExpr-F.Id variable at) = []
 literals_of (AstExpr-F.Label variable at) = []
 literals_of (AstExpr-F.Not inside at) = inside
 literals_of (AstExpr-F.Neg inside at) = inside
 literals_of (AstExpr-F.IsNull inside negated at) = inside
-literals_of (AstExpr-F.Binary op left right at) = left ++ right
+literals_of (AstExpr-F.Binary op at left right) = left ++ right
 
 -- the contents of an expression's text literals
 unfoldable pub literals : AstExpr → List (List ℕ)

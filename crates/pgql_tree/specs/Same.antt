@@ -22,14 +22,14 @@ bare_step (AstExpr-F.Int number at) = e.Int number 0
 bare_step (AstExpr-F.Text content at) = e.Text content 0
 bare_step (AstExpr-F.Date content at) = e.Date content 0
 bare_step (AstExpr-F.Bool value at) = e.Bool value 0
-bare_step (AstExpr-F.Name name at) = e.Name name 0
-bare_step (AstExpr-F.Property variable property at) = e.Property variable property 0
+bare_step (AstExpr-F.Name at name) = e.Name 0 name
+bare_step (AstExpr-F.Property at variable property) = e.Property 0 variable property
 bare_step (AstExpr-F.Id variable at) = e.Id (bare_name variable) 0
 bare_step (AstExpr-F.Label variable at) = e.Label (bare_name variable) 0
 bare_step (AstExpr-F.Not x at) = e.Not x 0
 bare_step (AstExpr-F.Neg x at) = e.Neg x 0
 bare_step (AstExpr-F.IsNull x negated at) = e.IsNull x negated 0
-bare_step (AstExpr-F.Binary o l r at) = e.Binary o l r 0
+bare_step (AstExpr-F.Binary o at l r) = e.Binary o 0 l r
 
 unfoldable pub bare : AstExpr → AstExpr
 bare = fold-AstExpr AstExpr bare_step

@@ -3,6 +3,8 @@
 //! An `at` is a place: a byte of the file of queries, counted from 0. A node's place is that of its first
 //! token; parentheses leave no node, and those round a node are not counted.
 
+use crate::content::Content;
+use crate::labels::Labels;
 use adfs_base::Name;
 use sqlite_items::{Boxed, Items};
 
@@ -31,7 +33,7 @@ pub struct Placed {
 #[derive(Drop)]
 pub struct Item {
     pub expr: AstExpr,
-    pub name: Option<Placed>,
+    pub name: Option<Boxed<Placed>>,
     pub at: u32,
 }
 
@@ -45,18 +47,18 @@ pub struct Path {
 /// `(name:label|label ..)`. Its place is that of its opening parenthesis.
 #[derive(Drop)]
 pub struct VertexPat {
-    pub name: Option<Placed>,
+    pub name: Option<Boxed<Placed>>,
     /// Empty where any label will do.
-    pub labels: Items<Name>,
+    pub labels: Labels,
     pub at: u32,
 }
 
 /// `-[name:label|label ..]->`, or `<-[..]-` where `out` is false. Its place is that of its first token.
 #[derive(Drop)]
 pub struct EdgePat {
-    pub name: Option<Placed>,
+    pub name: Option<Boxed<Placed>>,
     /// Empty where any label will do.
-    pub labels: Items<Name>,
+    pub labels: Labels,
     /// Whether the edge leads from the vertex on its left to that on its right.
     pub out: bool,
     pub at: u32,
@@ -71,6 +73,9 @@ pub struct Key {
 }
 
 /// An expression.
+///
+/// A node takes 24 bytes: fields lie in this order, small ones first where there are two others, and what is greater
+/// stands in memory of its own.
 #[derive(Drop)]
 pub enum AstExpr {
     /// A number as it is written, so never below 0.
@@ -80,12 +85,12 @@ pub enum AstExpr {
     },
     /// A text literal. `content` is UTF-8, with each doubled quote as one.
     Text {
-        content: Items<u8>,
+        content: Content,
         at: u32,
     },
     /// `DATE 'content'`. Whether it is the date of a day is not looked at here.
     Date {
-        content: Items<u8>,
+        content: Content,
         at: u32,
     },
     Bool {
@@ -94,23 +99,23 @@ pub enum AstExpr {
     },
     /// A variable or an AS name, alone.
     Name {
-        name: Name,
         at: u32,
+        name: Name,
     },
     /// `variable.property`
     Property {
-        variable: Name,
-        property: Name,
         at: u32,
+        variable: Boxed<Name>,
+        property: Boxed<Name>,
     },
     /// `id(variable)`
     Id {
-        variable: Placed,
+        variable: Boxed<Placed>,
         at: u32,
     },
     /// `label(variable)`
     Label {
-        variable: Placed,
+        variable: Boxed<Placed>,
         at: u32,
     },
     Not {
@@ -131,9 +136,9 @@ pub enum AstExpr {
     /// Two sides with an operator between them.
     Binary {
         op: Op,
+        at: u32,
         left: Boxed<AstExpr>,
         right: Boxed<AstExpr>,
-        at: u32,
     },
 }
 

@@ -10,9 +10,13 @@
 #![tactic(auto)]
 
 mod ast;
+mod content;
+mod labels;
 mod level;
 mod same;
 
 pub use ast::{Ast, AstExpr, EdgePat, Item, Key, Op, Path, Placed, VertexPat};
+pub use content::Content;
+pub use labels::Labels;
 pub use level::Level;
 pub use same::same_expr;

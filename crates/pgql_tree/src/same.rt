@@ -7,6 +7,7 @@ ghost use Rattle.pgql_tree.specs.declared.ast.AstExpr.TheVariants as e;
 
 use crate::ast::{Ast, AstExpr, EdgePat, Item, Key, Op, Path, Placed, VertexPat};
 use adfs_base::Name;
+use sqlite_items::Boxed;
 
 fn same_op(a: Op, b: Op) -> bool
     ensures { IsTrue result ↔ (a ≡ b) }
@@ -80,7 +81,7 @@ fn is_bool(x: &AstExpr, truth: bool) -> bool
 
 /// Whether the expression is this name.
 fn is_name(x: &AstExpr, name: &Name) -> bool
-    ensures { IsTrue result ↔ (spec.bare x.now ≡ spec.bare (e.Name name.now 0)) }
+    ensures { IsTrue result ↔ (spec.bare x.now ≡ spec.bare (e.Name 0 name.now)) }
 {
     match x {
         AstExpr::Name { name: other, .. } => same_name(other, name),
@@ -88,9 +89,15 @@ fn is_name(x: &AstExpr, name: &Name) -> bool
     }
 }
 
+fn same_boxed(a: &Boxed<Name>, b: &Boxed<Name>) -> bool
+    ensures { IsTrue result ↔ (a.now ≡ b.now) }
+{
+    same_name(a.get(), b.get())
+}
+
 /// Whether the expression is this property of this variable.
-fn is_property(x: &AstExpr, variable: &Name, property: &Name) -> bool
-    ensures { IsTrue result ↔ (spec.bare x.now ≡ spec.bare (e.Property variable.now property.now 0)) }
+fn is_property(x: &AstExpr, variable: &Boxed<Name>, property: &Boxed<Name>) -> bool
+    ensures { IsTrue result ↔ (spec.bare x.now ≡ spec.bare (e.Property 0 variable.now property.now)) }
 {
     match x {
         AstExpr::Property {
@@ -98,37 +105,43 @@ fn is_property(x: &AstExpr, variable: &Name, property: &Name) -> bool
             property: other_property,
             ..
         } => {
-            if !same_name(other_variable, variable) {
+            if !same_boxed(other_variable, variable) {
                 return false;
             }
-            same_name(other_property, property)
+            same_boxed(other_property, property)
         }
         _ => false,
     }
 }
 
+fn same_placed(a: &Boxed<Placed>, b: &Boxed<Placed>) -> bool
+    ensures { IsTrue result ↔ (a.now.name ≡ b.now.name) }
+{
+    same_name(&a.get().name, &b.get().name)
+}
+
 /// Whether the expression is the id of this variable.
-fn is_id(x: &AstExpr, variable: &Placed) -> bool
+fn is_id(x: &AstExpr, variable: &Boxed<Placed>) -> bool
     ensures { IsTrue result ↔ (spec.bare x.now ≡ spec.bare (e.Id variable.now 0)) }
 {
     match x {
         AstExpr::Id {
             variable: other,
             ..
-        } => same_name(&other.name, &variable.name),
+        } => same_placed(other, variable),
         _ => false,
     }
 }
 
 /// Whether the expression is the label of this variable.
-fn is_label(x: &AstExpr, variable: &Placed) -> bool
+fn is_label(x: &AstExpr, variable: &Boxed<Placed>) -> bool
     ensures { IsTrue result ↔ (spec.bare x.now ≡ spec.bare (e.Label variable.now 0)) }
 {
     match x {
         AstExpr::Label {
             variable: other,
             ..
-        } => same_name(&other.name, &variable.name),
+        } => same_placed(other, variable),
         _ => false,
     }
 }
@@ -178,7 +191,7 @@ fn is_null_test(x: &AstExpr, inside: &AstExpr, negated: bool) -> bool
 /// Whether the expression is this operator between these two.
 #[cycle(same_expr)]
 fn is_binary(x: &AstExpr, op: Op, left: &AstExpr, right: &AstExpr) -> bool
-    ensures { IsTrue result ↔ (spec.bare x.now ≡ spec.bare (e.Binary op left.now right.now 0)) }
+    ensures { IsTrue result ↔ (spec.bare x.now ≡ spec.bare (e.Binary op 0 left.now right.now)) }
 {
     match x {
         AstExpr::Binary {
@@ -278,11 +291,11 @@ fn same_labels(a: &[Name], b: &[Name]) -> bool
     same_all(a, b)
 }
 
-impl Same for Placed {
+impl Same for Boxed<Placed> {
     ghost bare = { spec.bare_name };
 
-    fn same(&self, other: &Placed) -> bool {
-        same_name(&self.name, &other.name)
+    fn same(&self, other: &Boxed<Placed>) -> bool {
+        same_placed(self, other)
     }
 }
 

@@ -2,13 +2,12 @@
 use Rattle.std.proofs.Common.{◌≡◌, ℕ, Bool, true, false, cond, List, [], ◌∷◌, ◌++◌, length, take, fold, Option, Some, None, Ok, sym, ap, ◌∙◌, append-nil, append_assoc}
 use Rattle.std.specs.List.{AllByRecursion, list_any}
 use Rattle.std.specs.Str.{bytes_eq}
-use Rattle.std.proofs.Math.Seq.{take-append_seam}
+use Rattle.std.proofs.Math.Seq.{take-append_seam, take-length}
 use Rattle.adfs_base.specs.declared.value.Value.TheVariants as value
 use Rattle.element_store.specs.Columns.{Cell}
 use Rattle.element_store.specs.Elements.{Element}
 use Rattle.graph_tables.specs.Graph.{IsShown, PropertyGraph, without_ends}
 use Rattle.graph_tables.specs.Properties.{SchemaLists}
-use Rattle.pgql_meaning.specs.Shown.{HasShown}
 use Rattle.pgql_tree.specs.declared.ast.Ast.{Ast}
 use Rattle.typed_expr.specs.Faults.{first_of}
 use Rattle.typed_expr.specs.Scope.{scope_of}
@@ -19,7 +18,8 @@ use Rattle.typed_expr.specs.declared.scope.Scope.{Scope}
 use Rattle.value_text.specs.Texts.{Kept, with_text}
 use Rattle.value_text.specs.Valid.{IsValid}
 use Rattle.value_text.proofs.Staying.{values_stay}
-use Rattle.query_replies.specs.Asked.{IsMeant}
+use Rattle.serial_run.specs.Engines.{HasItsValues}
+use Rattle.query_replies.specs.Asked.{IsMeant, IsMeantOfSome}
 use Rattle.query_replies.specs.declared.answers.Asked.{Asked}
 use Rattle.query_replies.specs.declared.answers.Asked.TheVariants.{Plan, Rows}
 
@@ -37,6 +37,10 @@ behind (text ∷ texts) old = behind_by old text texts (list_any (bytes_eq text)
 kept : (old new : List (List ℕ)) → (rest : List (List ℕ)) × (new ≡ old ++ rest) → Kept old new
 kept old new rest = ap (take (length old)) rest.1 ∙ take-append_seam old rest.0
 
+-- the same texts
+pub kept_same : (old new : List (List ℕ)) → new ≡ old → Kept old new
+kept_same old new is = ap (take (length old)) is ∙ take-length old
+
 typed_by-kept : (schema : SchemaLists) (old : List (List ℕ)) (ast : Ast) (scope : Scope) (found : Option TypeFault) (query : Query) (new : List (List ℕ))
     → typed_by schema old ast scope found ≡ Ok (query, new) → Kept old new
 typed_by-kept schema old ast scope (Some e) query new is = absurd cc
@@ -46,7 +50,7 @@ typed_by-kept schema old ast scope None query new is =
     kept old new (let rest = behind (all_literals ast) old in (rest.0, sym (ap (λ p. p.1) both) ∙ rest.1))
 
 -- a query keeps the numbers of the texts that were there
-typed-kept : (schema : SchemaLists) (old : List (List ℕ)) (ast : Ast) (query : Query) (new : List (List ℕ)) → typed schema old ast ≡ Ok (query, new) → Kept old new
+pub typed-kept : (schema : SchemaLists) (old : List (List ℕ)) (ast : Ast) (query : Query) (new : List (List ℕ)) → typed schema old ast ≡ Ok (query, new) → Kept old new
 unfolding typed
 typed-kept schema old ast query new is = typed_by-kept schema old ast (scope_of ast.paths) (first_of (faults_of schema ast (scope_of ast.paths))) query new is
 
@@ -61,15 +65,23 @@ module _ (old new : List (List ℕ)) (stay : Kept old new) where
   elements [] shown = tt
   elements (e ∷ es) shown = (((values_stay old new (value.Text e.label) stay shown.0.0).valid, values e.values shown.0.1), elements es shown.1)
 
--- after a query the graph means what it meant
-pub shown_after : (schema : SchemaLists) (old : List (List ℕ)) (ast : Ast) (query : Query) (new : List (List ℕ)) (graph : PropertyGraph)
-    → typed schema old ast ≡ Ok (query, new) → HasShown old graph → HasShown new graph
-shown_after schema old ast query new graph is shown =
-    let stay = typed-kept schema old ast query new is in
-    record { vertices_shown = elements old new stay graph.vertices shown.vertices_shown; edges_shown = elements old new stay (without_ends graph.edges) shown.edges_shown }
+-- a graph goes on to mean what it meant
+values_after : (old new : List (List ℕ)) (schema : SchemaLists) (graph : PropertyGraph) → Kept old new → HasItsValues old schema graph → HasItsValues new schema graph
+values_after old new schema graph stay values = record {
+  shown = record {
+    vertices_shown = elements old new stay graph.vertices values.shown.vertices_shown;
+    edges_shown = elements old new stay (without_ends graph.edges) values.shown.edges_shown;
+  };
+  vertices_typed = values.vertices_typed;
+  edges_typed = values.edges_typed;
+  vertices_fit = values.vertices_fit;
+  edges_fit = values.edges_fit;
+}
 
--- so what is asked rests on what means something
-pub meant_after : (schema : SchemaLists) (old : List (List ℕ)) (ast : Ast) (query : Query) (new : List (List ℕ)) (asked : Asked)
-    → typed schema old ast ≡ Ok (query, new) → IsMeant old asked → IsMeant new asked
-meant_after schema old ast query new (Rows graph) is shown = shown_after schema old ast query new graph.now is shown
-meant_after schema old ast query new Plan is shown = tt
+-- so what is asked goes on to rest on what means something
+pub meant_after : (old new : List (List ℕ)) (schema : SchemaLists) (graph : PropertyGraph) (asked : Asked) → Kept old new → IsMeant old schema graph asked → IsMeant new schema graph asked
+meant_after old new schema graph (Rows engine) stay over = record { values = values_after old new schema graph stay over.values; parts_of = over.parts_of }
+meant_after old new schema graph Plan stay over = tt
+
+pub meant_of_some-after : (old new : List (List ℕ)) (schema : SchemaLists) (asked : Asked) → Kept old new → IsMeantOfSome old schema asked → IsMeantOfSome new schema asked
+meant_of_some-after old new schema asked stay some = record { graph = some.graph; meant = meant_after old new schema some.graph asked stay some.meant }

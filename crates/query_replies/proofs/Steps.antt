@@ -1,47 +1,43 @@
 -- A reply from what the text of its query came to.
-use Rattle.std.proofs.Common.{◌≡◌, ◌≢◌, ℕ, ◌+◌, ◌||◌, Bool, true, false, List, [], ◌∷◌, ◌++◌, Result, Ok, Err, IfOk, is_err, refl, sym, ap, subst, ◌∙◌, append-nil, append_assoc}
+use Rattle.std.proofs.Common.{◌≡◌, ◌≢◌, ℕ, ◌+◌, ◌||◌, Bool, true, false, List, [], ◌∷◌, ◌++◌, Result, Ok, Err, IfOk, OnOk, refl, sym, ap, subst, ◌∙◌, append-nil, append_assoc}
 use Rattle.graph_tables.specs.Properties.{SchemaLists}
 use Rattle.pgql_syntax.specs.Places.{IsFault, IsTree}
 use Rattle.pgql_syntax.specs.declared.tree.SyntaxFault.{SyntaxFault}
 use Rattle.pgql_tree.specs.declared.ast.Ast.{Ast}
 use Rattle.result_collect.specs.Refusals.{refusal_text}
-use Rattle.stage_plan.specs.Plans.{planned}
 use Rattle.result_collect.specs.declared.refusal.Refusal.{Refusal}
 use Rattle.typed_expr.specs.Typed.{Gives, typed}
 use Rattle.typed_expr.specs.declared.fault.TypeFault.{TypeFault}
 use Rattle.typed_expr.specs.declared.fault.TypeFault.TheVariants as typing
-use Rattle.typed_query.specs.declared.query.Query.{Query}
 use Rattle.query_replies.specs.Faults.{refusal_of_syntax, refusal_of_typing}
-use Rattle.query_replies.specs.Replies.{AreAnswers, Answering, IsAnswer, Meaningful, Meaningless, Unread, piece_of, text_by}
+use Rattle.query_replies.specs.Replies.{AreAnswers, Answering, IsAnswer, Meaningless, Unread, piece_of}
 
-pub both_ok : {X E : Type 0} (P Q R : X → Type 0) → ((x : X) → P x → Q x → R x) → (result : Result X E) → IfOk result P → IfOk result Q → IfOk result R
-both_ok P Q R leads (Ok x) p q = leads x p q
-both_ok P Q R leads (Err e) p q = p
+-- what holds anyhow
+pub on_ok : {X E : Type 0} (result : Result X E) (P : Type 0) → P → OnOk result P
+on_ok (Ok x) P holds = holds
+on_ok (Err e) P holds = tt
+
+-- a fault that is told leaves the texts as they were
+pub faulty : (schema : SchemaLists) (old new : List (List ℕ)) (tree : Ast) (e : TypeFault) → e ≢ typing.NoMemory → Gives old new (Err e) (typed schema old tree) → (typed schema old tree ≡ Err e) × (new ≡ old)
+faulty schema old new tree (typing.UnknownName at) other gives = gives
+faulty schema old new tree (typing.UnknownProperty at) other gives = gives
+faulty schema old new tree (typing.KindMismatch at) other gives = gives
+faulty schema old new tree (typing.DoubleName at) other gives = gives
+faulty schema old new tree (typing.TooManyVariables at) other gives = gives
+faulty schema old new tree (typing.Disconnected at) other gives = gives
+faulty schema old new tree (typing.VariableKind at) other gives = gives
+faulty schema old new tree (typing.KeyNotSelected at) other gives = gives
+faulty schema old new tree (typing.BadDate at) other gives = gives
+faulty schema old new tree typing.NoMemory other gives = absurd (other refl)
 
 module _ (answering : Answering) (schema : SchemaLists) (number base : ℕ) (text : List ℕ) where
-  pub of_query : (old new : List (List ℕ)) (tree : Ast) (query : Query) (reply : List ℕ) (refused : Bool) → IsTree 64 base text tree → typed schema old tree ≡ Ok (query, new)
-      → reply ≡ text_by (answering new number query) number (planned query) → refused ≡ is_err (planned query) → IsAnswer answering schema number base text old new reply refused
-  of_query old new tree query reply refused is_tree is_typed is_reply is_refused =
-      record { reading = Meaningful tree query; is_reading = (is_tree, is_typed); reply_is = is_reply; refused_is = is_refused }
-
-  -- the fault of a tree, unless it is want of memory
+  -- the fault of a tree, unless memory ran out
   pub of_tree : (old new : List (List ℕ)) (tree : Ast) (e : TypeFault) (refusal : Refusal) (reply : List ℕ) (refused : Bool) → IsTree 64 base text tree → e ≢ typing.NoMemory
       → Gives old new (Err e) (typed schema old tree) → refusal ≡ refusal_of_typing e → reply ≡ refusal_text number refusal → refused ≡ true
       → IsAnswer answering schema number base text old new reply refused
   of_tree old new tree e refusal reply refused is_tree other gives is_refusal is_reply is_refused =
-      let told = faulty e other gives in
-      record { reading = Meaningless tree e; is_reading = (is_tree, told.0, told.1); reply_is = is_reply ∙ ap (refusal_text number) is_refusal; refused_is = is_refused } where
-        faulty : (e : TypeFault) → e ≢ typing.NoMemory → Gives old new (Err e) (typed schema old tree) → (typed schema old tree ≡ Err e) × (new ≡ old)
-        faulty (typing.UnknownName at) other gives = gives
-        faulty (typing.UnknownProperty at) other gives = gives
-        faulty (typing.KindMismatch at) other gives = gives
-        faulty (typing.DoubleName at) other gives = gives
-        faulty (typing.TooManyVariables at) other gives = gives
-        faulty (typing.Disconnected at) other gives = gives
-        faulty (typing.VariableKind at) other gives = gives
-        faulty (typing.KeyNotSelected at) other gives = gives
-        faulty (typing.BadDate at) other gives = gives
-        faulty typing.NoMemory other gives = absurd (other refl)
+      let told = faulty schema old new tree e other gives in
+      record { reading = Meaningless tree e; is_reading = (is_tree, told.0, told.1); reply_is = is_reply ∙ ap (refusal_text number) is_refusal; refused_is = is_refused }
 
   pub of_text : (old : List (List ℕ)) (e : SyntaxFault) (refusal : Refusal) (reply : List ℕ) (refused : Bool) → IsFault 64 base text e
       → refusal ≡ refusal_of_syntax e → reply ≡ refusal_text number refusal → refused ≡ true → IsAnswer answering schema number base text old old reply refused

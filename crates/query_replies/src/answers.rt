@@ -1,27 +1,25 @@
 //! What each query of a file is answered, or its plan.
-ghost use Rattle.std.specs.Prelude.{◌≡◌, ◌+◌, ◌-◌, ◌<◌, ◌≤◌, ◌↔◌, ◌^◌, ◌||◌, ℕ, true, false, List, IfOk, OnOk, All, is_err, length, map};
+ghost use Rattle.std.specs.Prelude.{◌≡◌, ◌+◌, ◌-◌, ◌<◌, ◌≤◌, ◌^◌, ◌||◌, ℕ, false, IfOk, OnOk, All, length, map};
+ghost use Rattle.adfs_base.specs.declared.limits.TheConstants.{CONTEXT_WORDS};
+ghost use Rattle.graph_tables.specs.Graph.{PropertyGraph};
+ghost use Rattle.graph_tables.specs.Properties.{SchemaLists};
 ghost use Rattle.pgql_lexer.specs.Places.{LiesBetween};
-ghost use Rattle.pgql_meaning.specs.Shown.{HasMeaning, HasShown};
-ghost use Rattle.pgql_syntax.specs.Places.{IsTree};
-ghost use Rattle.result_collect.specs.Refusals.{IsNamed, refusal_text};
+ghost use Rattle.pgql_meaning.specs.Shown.{HasMeaning};
 ghost use Rattle.stage_plan.specs.PlanText.{plan_text};
-ghost use Rattle.stage_plan.specs.Plans.{plan_of, planned};
-ghost use Rattle.typed_expr.specs.Typed.{all_literals};
+ghost use Rattle.stage_plan.specs.Plans.{plan_of, words_of};
+ghost use Rattle.typed_expr.specs.Captured.{HaveKinds};
 ghost use Rattle.typed_expr.specs.WellFormed.{IsWellFormed};
+ghost use Rattle.value_text.specs.Texts.{Kept};
 ghost use Rattle.query_replies.specs.Replies as spec;
-ghost use Rattle.query_replies.specs.Asked.{IsMeant, answering};
-ghost use Rattle.query_replies.specs.Replies.{AreAnswers, ArePlans, AreReplies, IsAnswer};
+ghost use Rattle.query_replies.specs.Asked.{IsMeant, IsMeantOfSome, MayBeAsked, answering};
+ghost use Rattle.query_replies.specs.Replies.{AreAnswers, IsAnswer};
 
-use crate::faults::{refusal_of_syntax, refusal_of_typing};
+use crate::reading::{Verdict, read_query};
 use adfs_base::{FILE_BYTES, NoMemory};
-use graph_tables::{Graph, Schema};
-use pgql_meaning::answer_plain;
-use pgql_syntax::{Ast, parse};
-use result_collect::{Refusal, put_refusal, put_reply};
-use stage_plan::{Plan, PlanFault, plan_query, put_plan};
+use graph_tables::Schema;
+use serial_run::Engine;
+use stage_plan::{Plan, put_plan};
 use std::alloc::Global;
-use typed_expr::laws::trees_have_paths;
-use typed_expr::{literal_count, type_query};
 use typed_query::Query;
 use value_text::Texts;
 
@@ -39,24 +37,12 @@ pub struct Replies {
     pub refused: bool,
 }
 
-fn refused(alloc: Global, number: u32, refusal: Refusal) -> Result<Reply, NoMemory>
-    requires { IsNamed refusal }
-    ensures text { IfOk result (λ reply. reply.text.items ≡ refusal_text number refusal) }
-    ensures refused { IfOk result (λ reply. reply.refused ≡ true) }
-{
-    let mut text = Vec::new(alloc);
-    put_refusal(alloc, number, &refusal, &mut text)?;
-    Ok(Reply {
-        text,
-        refused: true,
-    })
-}
-
 /// What is asked of each query.
-#[derive(Clone, Copy)]
-pub(crate) enum Asked<'a> {
-    /// The rows of its answer over the graph.
-    Rows(&'a Graph),
+#[derive(Drop)]
+pub enum Asked {
+    /// The rows of its answer over the graph whose parts the engine has.
+    Rows(Engine),
+    /// Its plan.
     Plan,
 }
 
@@ -70,24 +56,6 @@ fn answered(text: Vec<u8>) -> Reply
     }
 }
 
-// The rows of a query.
-fn rows_text(
-    alloc: Global,
-    graph: &Graph,
-    texts: &Texts,
-    number: u32,
-    query: &Query,
-) -> Result<Vec<u8>, NoMemory>
-    requires shown { HasShown texts.now graph.now }
-    requires meaning { HasMeaning texts.now query.now }
-    ensures { IfOk result (λ text. text.items ≡ spec.rows_over graph.now texts.now number query.now) }
-{
-    let rows = answer_plain(alloc, graph, texts, query)?;
-    let mut text = Vec::new(alloc);
-    put_reply(number, query, &rows, texts, &mut text)?;
-    Ok(text)
-}
-
 fn plan_text(alloc: Global, number: u32, plan: &Plan, query: &Query) -> Result<Vec<u8>, NoMemory>
     ensures { IfOk result (λ text. text.items ≡ plan_text number plan.now query.now) }
 {
@@ -99,81 +67,30 @@ fn plan_text(alloc: Global, number: u32, plan: &Plan, query: &Query) -> Result<V
 // What is asked of a query that has this plan.
 fn asked_text(
     alloc: Global,
-    asked: Asked<'_>,
+    asked: &mut Asked,
     texts: &Texts,
     number: u32,
-    query: &Query,
-    plan: &Plan,
+    query: Query,
+    plan: Plan,
 ) -> Result<Vec<u8>, NoMemory>
-    requires shown { IsMeant texts.now asked }
-    requires meaning { HasMeaning texts.now query.now }
-    requires plan { plan.now ≡ plan_of query.now }
-    ensures { IfOk result (λ text. text.items ≡ answering asked.entry texts.now number query.now) }
+    requires plan { plan ≡ plan_of query }
+    requires well { IsWellFormed query }
+    requires room { words_of query ≤ CONTEXT_WORDS }
+    requires meaning { HasMeaning texts.now query }
+    requires may { MayBeAsked texts.now asked.old query }
+    ensures text { (schema : SchemaLists) (graph : PropertyGraph) → IsMeant texts.now schema graph asked.old → HaveKinds schema query → IfOk result (λ text. text.items ≡ answering graph asked.old texts.now number query) }
+    ensures kept { asked.new ≡ asked.old }
 {
     match asked {
-        Asked::Rows(graph) => rows_text(alloc, graph, texts, number, query),
-        Asked::Plan => plan_text(alloc, number, plan, query),
-    }
-}
-
-// What a query is answered.
-fn reply_to_query(
-    alloc: Global,
-    asked: Asked<'_>,
-    texts: &Texts,
-    number: u32,
-    query: &Query,
-) -> Result<Reply, NoMemory>
-    requires shown { IsMeant texts.now asked }
-    requires meaning { HasMeaning texts.now query.now }
-    requires well { IsWellFormed query.now }
-    ensures text { IfOk result (λ reply. reply.text.items ≡ spec.text_by (answering asked.entry texts.now number query.now) number (planned query.now)) }
-    ensures refused { IfOk result (λ reply. reply.refused ≡ is_err (planned query.now)) }
-{
-    match plan_query(alloc, query) {
-        Ok(plan) => {
-            let text = asked_text(alloc, asked, texts, number, query, &plan)?;
-            Ok(answered(text))
-        }
-        Err(PlanFault::TooWide(words)) => refused(alloc, number, Refusal::TooWide(words)),
-        Err(PlanFault::NoMemory) => Err(NoMemory),
-    }
-}
-
-// Whether the literals of a tree find numbers. They always do within the limits of graphs and files.
-fn has_numbers(texts: &Texts, ast: &Ast) -> bool
-    ensures { result ≡ true ↔ length texts.now + length (all_literals ast.now) < 2 ^ 32 - 1 }
-{
-    (texts.len() as u64) + (literal_count(ast) as u64) < 4_294_967_295
-}
-
-// What the tree of a text is answered.
-fn reply_to_tree(
-    alloc: Global,
-    asked: Asked<'_>,
-    schema: &Schema,
-    texts: &mut Texts,
-    number: u32,
-    ast: &Ast,
-) -> Result<Reply, NoMemory>
-    requires shown { IsMeant texts.old asked }
-    requires paths { 0 < length ast.now.paths }
-    ensures reply { (base : ℕ) (text : List ℕ) → IsTree 64 base text ast.now → IfOk result (λ reply. IsAnswer (answering asked.entry) schema.now number base text texts.old texts.new reply.text.items reply.refused) }
-    ensures shown { OnOk result (IsMeant texts.new asked.entry) }
-{
-    if !has_numbers(texts, ast) {
-        return Err(NoMemory);
-    }
-    match type_query(alloc, ast, schema, texts) {
-        Ok(query) => reply_to_query(alloc, asked, texts, number, &query),
-        Err(fault) => refused(alloc, number, refusal_of_typing(fault)?),
+        Asked::Rows(engine) => engine.reply(alloc, number, plan, query, texts),
+        Asked::Plan => plan_text(alloc, number, &plan, &query),
     }
 }
 
 // What the query of this number is answered, whose first byte stands at `base` in its file.
 fn reply_to_text(
     alloc: Global,
-    asked: Asked<'_>,
+    asked: &mut Asked,
     schema: &Schema,
     texts: &mut Texts,
     number: u32,
@@ -181,17 +98,20 @@ fn reply_to_text(
     base: u32,
 ) -> Result<Reply, NoMemory>
     requires short { base + length text.now < 2 ^ 32 }
-    requires shown { IsMeant texts.old asked }
-    ensures reply { IfOk result (λ reply. IsAnswer (answering asked.entry) schema.now number base text.now texts.old texts.new reply.text.items reply.refused) }
-    ensures shown { OnOk result (IsMeant texts.new asked.entry) }
+    requires meant { IsMeantOfSome texts.old schema.now asked.old }
+    ensures reply { (graph : PropertyGraph) → IsMeant texts.old schema.now graph asked.old → IfOk result (λ reply. IsAnswer (answering graph asked.old) schema.now number base text.now texts.old texts.new reply.text.items reply.refused) }
+    ensures numbers { OnOk result (Kept texts.old texts.new) }
+    ensures kept { asked.new ≡ asked.old }
 {
-    match parse(alloc, text, base) {
-        Ok(ast) => {
-            // What this promises says that the query is well-formed.
-            trees_have_paths();
-            reply_to_tree(alloc, asked, schema, texts, number, &ast)
+    match read_query(alloc, schema, texts, number, text, base)? {
+        Verdict::Accepted(query, plan) => {
+            let text = asked_text(alloc, asked, texts, number, query, plan)?;
+            Ok(answered(text))
         }
-        Err(fault) => refused(alloc, number, refusal_of_syntax(fault)?),
+        Verdict::Refused(text) => Ok(Reply {
+            text,
+            refused: true,
+        }),
     }
 }
 
@@ -209,10 +129,11 @@ fn either(a: bool, b: bool) -> bool
     a || b
 }
 
-// What is asked of the queries of a file that stand at these places.
-fn replies_to_all(
+/// What is asked of the queries of a file, which stand at these places: exactly `AreAnswers` of `answering`, where the
+/// first has the number 1. The texts get those of the queries' literals. What is asked stays as it was.
+pub fn answer_queries(
     alloc: Global,
-    asked: Asked<'_>,
+    asked: &mut Asked,
     schema: &Schema,
     texts: &mut Texts,
     file: &[u8],
@@ -221,8 +142,8 @@ fn replies_to_all(
     requires short { length file.now ≤ FILE_BYTES }
     requires few { length pieces.now ≤ 4096 }
     requires within { All (LiesBetween 0 (length file.now)) pieces.now }
-    requires shown { IsMeant texts.old asked }
-    ensures { IfOk result (λ replies. AreAnswers (answering asked.entry) schema.now file.now 1 pieces.now texts.old texts.new (map (λ text. text.items) replies.texts.items) replies.refused) }
+    requires meant { IsMeantOfSome texts.old schema.now asked.old }
+    ensures { (graph : PropertyGraph) → IsMeant texts.old schema.now graph asked.old → IfOk result (λ replies. AreAnswers (answering graph asked.old) schema.now file.now 1 pieces.now texts.old texts.new (map (λ text. text.items) replies.texts.items) replies.refused) }
 {
     let mut found = Vec::new(alloc);
     let mut one_refused = false;
@@ -240,40 +161,4 @@ fn replies_to_all(
         texts: found,
         refused: one_refused,
     })
-}
-
-/// What the queries of a file are answered, which stand at these places: exactly `AreReplies`, where the first
-/// has the number 1. The texts get those of the queries' literals.
-pub fn answer_queries(
-    alloc: Global,
-    graph: &Graph,
-    schema: &Schema,
-    texts: &mut Texts,
-    file: &[u8],
-    pieces: &[(u32, u32)],
-) -> Result<Replies, NoMemory>
-    requires short { length file.now ≤ FILE_BYTES }
-    requires few { length pieces.now ≤ 4096 }
-    requires within { All (LiesBetween 0 (length file.now)) pieces.now }
-    requires shown { HasShown texts.old graph.now }
-    ensures { IfOk result (λ replies. AreReplies graph.now schema.now file.now 1 pieces.now texts.old texts.new (map (λ text. text.items) replies.texts.items) replies.refused) }
-{
-    replies_to_all(alloc, Asked::Rows(graph), schema, texts, file, pieces)
-}
-
-/// The plans of the queries of a file, which stand at these places: exactly `ArePlans`, where the first has the
-/// number 1. The texts get those of the queries' literals.
-pub fn plan_queries(
-    alloc: Global,
-    schema: &Schema,
-    texts: &mut Texts,
-    file: &[u8],
-    pieces: &[(u32, u32)],
-) -> Result<Replies, NoMemory>
-    requires short { length file.now ≤ FILE_BYTES }
-    requires few { length pieces.now ≤ 4096 }
-    requires within { All (LiesBetween 0 (length file.now)) pieces.now }
-    ensures { IfOk result (λ plans. ArePlans schema.now file.now 1 pieces.now texts.old texts.new (map (λ text. text.items) plans.texts.items) plans.refused) }
-{
-    replies_to_all(alloc, Asked::Plan, schema, texts, file, pieces)
 }

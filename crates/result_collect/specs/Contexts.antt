@@ -1,6 +1,7 @@
 -- The matches for which contexts stand.
 use Rattle.std.specs.Prelude.{◌≡◌, ℕ, ◌+◌, List, [], ◌∷◌, length, map}
 use Rattle.std.specs.List.{range_with_len}
+use Rattle.std.specs.List.Sorted.{IsPermutation}
 use Rattle.adfs_base.specs.declared.value.Kind.{Kind}
 use Rattle.adfs_base.specs.declared.value.Kind.TheVariants as kind
 use Rattle.adfs_base.specs.declared.value.Value.{Value}
@@ -9,8 +10,10 @@ use Rattle.element_store.specs.Words.{value_from}
 use Rattle.graph_tables.specs.Graph.{PropertyGraph}
 use Rattle.match_context.specs.Words.{captured_in, number_in}
 use Rattle.match_context.specs.declared.context.Context.{Context}
-use Rattle.pgql_meaning.specs.Answer.{shown_by}
+use Rattle.pgql_meaning.specs.Answer.{all_matches, answer_of, shown_by}
 use Rattle.pgql_meaning.specs.Captured.{captured}
+use Rattle.pgql_meaning.specs.Shown.{HasMeaning, HasShown}
+use Rattle.typed_query.specs.WellFormed.{IsWellFormed}
 use Rattle.typed_query.specs.declared.query.Capture.{Capture}
 use Rattle.typed_query.specs.declared.query.Query.{Query}
 use Rattle.typed_query.specs.declared.query.What.{What}
@@ -51,3 +54,11 @@ StandForEach graph query [] [] = Unit {0}
 StandForEach graph query [] (assignment ∷ others) = ⊥
 StandForEach graph query (context ∷ contexts) [] = ⊥
 StandForEach graph query (context ∷ contexts) (assignment ∷ others) = StandsFor graph query context assignment × StandForEach graph query contexts others
+
+-- The rows are the answer of the query over every graph for whose matches the contexts stand, each for one and in whatever order,
+-- where the graph and the query mean something under the texts.
+abbrev pub AreAnswerOf : List (List ℕ) → Query → List Context → List (List Value) → Type 0
+AreAnswerOf texts query contexts rows = (graph : PropertyGraph) (matches : List (List ℕ))
+    → StandForEach graph query contexts matches → IsPermutation (all_matches texts graph query) matches
+    → HasShown texts graph → HasMeaning texts query → IsWellFormed query
+    → rows ≡ answer_of texts graph query

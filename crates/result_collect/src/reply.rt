@@ -9,6 +9,7 @@ ghost use Rattle.pgql_meaning.specs.Shown.{AreShown};
 
 use adfs_base::{Name, NoMemory, Value};
 use answer_rows::Row;
+use std::alloc::Global;
 use typed_query::{Expr, Query};
 use value_text::{Texts, put_text, put_value};
 
@@ -21,7 +22,7 @@ fn append_value(value: &Value, texts: &Texts, out: &mut Vec<u8>) -> Result<(), N
     put_value(value, texts, out)
 }
 
-// A value behind another.
+// A value after another.
 #[tactic(auto, using(crate::proofs::Growing::grows_on, crate::proofs::Growing::grows_same))]
 fn append_next_value(value: &Value, texts: &Texts, out: &mut Vec<u8>) -> Result<(), NoMemory>
     requires { IsValid texts.now value.now }
@@ -90,7 +91,7 @@ fn append_name(name: &Name, out: &mut Vec<u8>) -> Result<(), NoMemory>
     put_text(name.text().as_bytes(), out)
 }
 
-// A name behind another.
+// A name after another.
 #[tactic(auto, using(crate::proofs::Growing::grows_on, crate::proofs::Growing::grows_same))]
 fn append_next_name(name: &Name, out: &mut Vec<u8>) -> Result<(), NoMemory>
     ensures ok { OnOk result (out.new.items ≡ out.old.items ++ 44 ∷ shown_text name.now) }
@@ -146,7 +147,7 @@ fn append_number(number: u64, out: &mut Vec<u8>) -> Result<(), NoMemory>
     Ok(())
 }
 
-// A word and a number behind it.
+// A word and a number after it.
 #[tactic(auto, using(crate::proofs::Growing::grows_on, crate::proofs::Growing::grows_same))]
 fn append_counted(word: &[u8], number: u64, out: &mut Vec<u8>) -> Result<(), NoMemory>
     ensures ok { OnOk result (out.new.items ≡ out.old.items ++ (word.now ++ decimal number)) }
@@ -186,7 +187,10 @@ fn append_reply(
 
 /// Appends the reply to the query of this number: how many rows there are, the names of the columns, and the
 /// rows. After `NoMemory` the bytes are as before.
+///
+/// It takes memory for `out` alone, which grows by the allocator that it was made with.
 pub fn put_reply(
+    _alloc: Global,
     number: u32,
     query: &Query,
     rows: &[Row],
@@ -200,6 +204,22 @@ pub fn put_reply(
     let start = out.len();
     if append_reply(number, query, rows, texts, out).is_err() {
         out.truncate(start);
+        return Err(NoMemory);
+    }
+    Ok(())
+}
+
+/// Appends the line of a row: its values, with a comma between two of them. After `NoMemory` the bytes are as before.
+///
+/// It takes memory for `out` alone, as `put_reply` does.
+pub fn put_row(_alloc: Global, row: &Row, texts: &Texts, out: &mut Vec<u8>) -> Result<(), NoMemory>
+    requires { AllByRecursion (IsValid texts.now) row.now }
+    ensures ok { OnOk result (out.new.items ≡ out.old.items ++ row_text texts.now row.now) }
+    ensures err { OnErr result (out.new.items ≡ out.old.items) }
+{
+    let before = out.len();
+    if append_row(row, texts, out).is_err() {
+        out.truncate(before);
         return Err(NoMemory);
     }
     Ok(())

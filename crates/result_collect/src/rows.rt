@@ -1,15 +1,11 @@
 //! From contexts to the rows of an answer.
 ghost use Rattle.std.specs.Prelude.{◌≡◌, ◌+◌, ◌<◌, ◌≤◌, ◌++◌, ◌∷◌, [], ℕ, List, OnOk, IfOk, length, map};
 ghost use Rattle.std.specs.List.{range_with_len};
-ghost use Rattle.std.specs.List.Sorted.{IsPermutation};
 ghost use Rattle.answer_rows.specs.Arranged.{rows_of};
 ghost use Rattle.match_context.specs.Words.{number_in};
-ghost use Rattle.graph_tables.specs.Graph.{PropertyGraph};
-ghost use Rattle.pgql_meaning.specs.Answer.{all_matches, answer_of, arrangement_of};
-ghost use Rattle.pgql_meaning.specs.Shown.{HasMeaning, HasShown};
-ghost use Rattle.typed_query.specs.WellFormed.{IsWellFormed};
+ghost use Rattle.pgql_meaning.specs.Answer.{arrangement_of};
 ghost use Rattle.result_collect.specs.Contexts as contexts;
-ghost use Rattle.result_collect.specs.Contexts.{StandForEach};
+ghost use Rattle.result_collect.specs.Contexts.{AreAnswerOf};
 
 use adfs_base::{CONTEXT_WORDS, Kind, NoMemory, Value};
 use answer_rows::{Match, Row, rows_in_order};
@@ -130,9 +126,9 @@ pub fn collect(
 ) -> Result<Vec<Row>, NoMemory>
     requires { 1 + length query.now.variables + length query.now.captures ≤ CONTEXT_WORDS }
     ensures shown { IfOk result (λ found. found.items ≡ rows_of texts.now (arrangement_of query.now) (map (contexts.shown_in texts.now query.now) rows.items)) }
-    ensures answer { IfOk result (λ found. (graph : PropertyGraph) (matches : List (List ℕ)) → StandForEach graph query.now rows.items matches → IsPermutation (all_matches texts.now graph query.now) matches → HasShown texts.now graph → HasMeaning texts.now query.now → IsWellFormed query.now → found.items ≡ answer_of texts.now graph query.now) }
+    ensures answer { IfOk result (λ found. AreAnswerOf texts.now query.now rows.items found.items) }
 {
-    // Asked for its contract: it tells that no two texts are the same, on which the clause `answer` rests.
-    let _ = texts.len();
+    // The clause `answer` rests on it that no two texts are the same, which a call of `len` says of them.
+    let _count = texts.len();
     rows_shown(alloc, rows, query, texts)
 }

@@ -1,3 +1,4 @@
 pub mod FileFacts
+pub mod JobFacts
 pub mod Steps
 pub mod WordFacts

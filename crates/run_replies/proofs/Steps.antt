@@ -2,16 +2,15 @@
 use Rattle.std.proofs.Common.{◌≡◌, ℕ, ◌+◌, ◌-◌, ◌≤◌, min, List, ◌∷◌, map, ap, sym, ◌∙◌, Option, Some, None, Result, Ok, Err, IsOk, ◌⊎◌, inl, inr, IfSome, IfErr, MatchOption, arith, subst, refl}
 use Rattle.adfs_base.specs.Counts.{Rose}
 use Rattle.adfs_base.specs.declared.part_word.PartWord.{PartWord}
-use Rattle.graph_tables.specs.Graph.{IsWhole, PropertyGraph}
+use Rattle.graph_tables.specs.Graph.{PropertyGraph}
 use Rattle.graph_tables.specs.Properties.{SchemaLists}
 use Rattle.pgql_lexer.specs.Pieces.{pieces}
-use Rattle.pgql_meaning.specs.Shown.{HasShown}
 use Rattle.cli_words.specs.declared.options.Options.{Options}
 use Rattle.query_replies.specs.declared.answers.Replies.{Replies}
 use Rattle.run_replies.specs.Causes.{FailsAtFile, FailsAtItsFile, NamesOwners, StoreCause, WordsGive}
 use Rattle.run_status.specs.Faults.{status_of_cell, status_of_fault, status_of_kind}
 use Rattle.cli_words.specs.declared.command.Command.{Command}
-use Rattle.run_replies.specs.Outcome.{IsDoneBy, Work, few_places, without_texts, work_of_text, work_on}
+use Rattle.run_replies.specs.Outcome.{IsDoneBy, Work, few_places, work_of_text, work_on}
 use Rattle.run_replies.specs.Parts.{FailsAt, IsOfFiles, IsOfText, IsOfWords, PartGives, RepliesGive}
 use Rattle.run_status.specs.Steps.{◌>>~◌}
 use Rattle.graph_tables.specs.Faults as tables
@@ -66,10 +65,6 @@ pub answered : (command : Command) (graph : PropertyGraph) (schema : SchemaLists
     → RepliesGive (Ok replies) (work_of_text command graph schema texts text)
 answered command graph schema texts text places replies is done =
     (work_on command (record { graph = graph; schema = schema; texts = texts; file = text; places = places }), rw is refl, done)
-
--- the graph of the tables means something under their texts
-pub shown_of : (graph : PropertyGraph) → IsWhole graph → HasShown graph.texts (without_texts graph)
-shown_of graph whole = record { vertices_shown = whole.vertices_shown; edges_shown = whole.edges_shown }
 
 -- ---- causes
 

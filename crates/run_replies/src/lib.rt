@@ -7,6 +7,7 @@
 #![tactic(auto)]
 
 mod answer;
+mod job;
 mod load;
 mod words;
 

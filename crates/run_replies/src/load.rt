@@ -7,6 +7,7 @@ ghost use Rattle.run_status.specs.Faults.{with_status};
 ghost use Rattle.run_replies.specs.Outcome.{file_bytes, listed_owner, owner_of};
 ghost use Rattle.run_replies.specs.Parts.{FailsAt, IsOfFiles, PartGives};
 ghost use Rattle.graph_tables.specs.Graph.{IsWhole};
+ghost use Rattle.partition.specs.Owners.{IsOwner};
 ghost use Rattle.graph_loading.specs.Loaded.{loaded};
 
 use adfs_base::{FILE_BYTES, Loaded, PartWord, Store};
@@ -81,6 +82,7 @@ fn load_listed<S: Store>(
     ensures cause { IfErr result (λ status. StoreCause status (S.files store.old) (S.faults store.old) (S.faults store.new) (S.misses store.old) (S.misses store.new)) }
     ensures status { IfErr result IsOfFiles }
     ensures place { IfErr result (FailsAt OWNER_FILE OWNER_FILE) }
+    ensures fits { IfOk result (λ owner. IsOwner owner (length graph.now.vertices) machines) }
 {
     let bytes = load_file(alloc, store, OWNER_FILE, name)?;
     match read_owners(alloc, &bytes, graph, machines) {
@@ -103,6 +105,7 @@ pub fn load_owner<S: Store>(
     ensures cause { IfErr result (λ status. StoreCause status (S.files store.old) (S.faults store.old) (S.faults store.new) (S.misses store.old) (S.misses store.new)) }
     ensures status { IfErr result IsOfFiles }
     ensures place { IfErr result (FailsAtFile options.now.part) }
+    ensures fits { IfOk result (λ owner. IsOwner owner (length graph.now.vertices) options.now.machines) }
 {
     match &options.part {
         PartWord::Modulo => Ok(Owner::Modulo),

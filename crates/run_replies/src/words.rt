@@ -6,6 +6,7 @@ ghost use Rattle.std.specs.String.{string_bytes};
 ghost use Rattle.run_replies.specs.Parts.{IsOfWords, PartGives};
 ghost use Rattle.run_replies.specs.Words.{accepted, is_built};
 ghost use Rattle.cli_words.specs.Files.{HasItsFiles};
+ghost use Rattle.cli_words.specs.Ranges.{IsWithinLimits};
 ghost use Rattle.cli_words.specs.Values.{cut_at};
 
 use cli_words::{Command, Options, UsageFault, read_words};
@@ -45,6 +46,7 @@ fn is_built(command: Command, words: &[String]) -> bool
 pub fn accepted(alloc: Global, words: &[String]) -> Result<Options, Status>
     ensures gives { PartGives (λ options. options) result (accepted (map string_bytes words.now)) }
     ensures files { IfOk result HasItsFiles }
+    ensures limits { IfOk result IsWithinLimits }
     ensures status { IfErr result IsOfWords }
 {
     match read_words(alloc, words) {

@@ -36,11 +36,11 @@ pub uses-Bool : (schema : SchemaLists) (variables : List Declared) (whole : AstE
 unfolding uses
 uses-Bool schema variables whole truth at is = fold-Bool (List Capture) (uses_of schema variables) whole truth at is
 
-pub uses-Name : (schema : SchemaLists) (variables : List Declared) (whole : AstExpr) (name : List ℕ) (at : ℕ) → whole ≡ ast.Name name at → uses schema variables whole ≡ []
+pub uses-Name : (schema : SchemaLists) (variables : List Declared) (whole : AstExpr) (name : List ℕ) (at : ℕ) → whole ≡ ast.Name at name → uses schema variables whole ≡ []
 unfolding uses
 uses-Name schema variables whole name at is = fold-Name (List Capture) (uses_of schema variables) whole name at is
 
-pub uses-Property : (schema : SchemaLists) (variables : List Declared) (whole : AstExpr) (variable property : List ℕ) (at : ℕ) → whole ≡ ast.Property variable property at → uses schema variables whole ≡ cons_option (property_use schema property (variable_of variables variable)) []
+pub uses-Property : (schema : SchemaLists) (variables : List Declared) (whole : AstExpr) (variable property : List ℕ) (at : ℕ) → whole ≡ ast.Property at variable property → uses schema variables whole ≡ cons_option (property_use schema property (variable_of variables variable)) []
 unfolding uses
 uses-Property schema variables whole variable property at is = fold-Property (List Capture) (uses_of schema variables) whole variable property at is
 
@@ -64,7 +64,7 @@ pub uses-IsNull : (schema : SchemaLists) (variables : List Declared) (whole : As
 unfolding uses
 uses-IsNull schema variables whole inside negated at is = fold-IsNull (List Capture) (uses_of schema variables) whole inside negated at is
 
-pub uses-Binary : (schema : SchemaLists) (variables : List Declared) (whole : AstExpr) (op : Op) (left right : AstExpr) (at : ℕ) → whole ≡ ast.Binary op left right at → uses schema variables whole ≡ uses schema variables left ++ uses schema variables right
+pub uses-Binary : (schema : SchemaLists) (variables : List Declared) (whole : AstExpr) (op : Op) (left right : AstExpr) (at : ℕ) → whole ≡ ast.Binary op at left right → uses schema variables whole ≡ uses schema variables left ++ uses schema variables right
 unfolding uses
 uses-Binary schema variables whole op left right at is = fold-Binary (List Capture) (uses_of schema variables) whole op left right at is
 
@@ -84,11 +84,11 @@ pub alone-Bool : (whole : AstExpr) (truth : Bool) (at : ℕ) → whole ≡ ast.B
 unfolding alone
 alone-Bool whole truth at is = fold-Bool (Option (List ℕ)) alone_of whole truth at is
 
-pub alone-Name : (whole : AstExpr) (name : List ℕ) (at : ℕ) → whole ≡ ast.Name name at → alone whole ≡ Some name
+pub alone-Name : (whole : AstExpr) (name : List ℕ) (at : ℕ) → whole ≡ ast.Name at name → alone whole ≡ Some name
 unfolding alone
 alone-Name whole name at is = fold-Name (Option (List ℕ)) alone_of whole name at is
 
-pub alone-Property : (whole : AstExpr) (variable property : List ℕ) (at : ℕ) → whole ≡ ast.Property variable property at → alone whole ≡ None
+pub alone-Property : (whole : AstExpr) (variable property : List ℕ) (at : ℕ) → whole ≡ ast.Property at variable property → alone whole ≡ None
 unfolding alone
 alone-Property whole variable property at is = fold-Property (Option (List ℕ)) alone_of whole variable property at is
 
@@ -112,7 +112,7 @@ pub alone-IsNull : (whole : AstExpr) (inside : AstExpr) (negated : Bool) (at : �
 unfolding alone
 alone-IsNull whole inside negated at is = fold-IsNull (Option (List ℕ)) alone_of whole inside negated at is
 
-pub alone-Binary : (whole : AstExpr) (op : Op) (left right : AstExpr) (at : ℕ) → whole ≡ ast.Binary op left right at → alone whole ≡ None
+pub alone-Binary : (whole : AstExpr) (op : Op) (left right : AstExpr) (at : ℕ) → whole ≡ ast.Binary op at left right → alone whole ≡ None
 unfolding alone
 alone-Binary whole op left right at is = fold-Binary (Option (List ℕ)) alone_of whole op left right at is
 
@@ -132,12 +132,12 @@ pub meant-Bool : (schema : SchemaLists) (variables : List Declared) (captures : 
 unfolding meant
 meant-Bool schema variables captures texts whole truth at is = fold-Bool Expr (meant_of schema variables captures texts) whole truth at is
 
-pub meant-Name : (schema : SchemaLists) (variables : List Declared) (captures : List Capture) (texts : List (List ℕ)) (whole : AstExpr) (name : List ℕ) (at : ℕ) → whole ≡ ast.Name name at → meant schema variables captures texts whole ≡ expr.Constant value.Null
+pub meant-Name : (schema : SchemaLists) (variables : List Declared) (captures : List Capture) (texts : List (List ℕ)) (whole : AstExpr) (name : List ℕ) (at : ℕ) → whole ≡ ast.Name at name → meant schema variables captures texts whole ≡ expr.Constant value.Null
 unfolding meant
 meant-Name schema variables captures texts whole name at is = fold-Name Expr (meant_of schema variables captures texts) whole name at is
 
 pub meant-Property : (schema : SchemaLists) (variables : List Declared) (captures : List Capture) (texts : List (List ℕ)) (whole : AstExpr) (variable property : List ℕ) (at : ℕ)
-    → whole ≡ ast.Property variable property at
+    → whole ≡ ast.Property at variable property
     → meant schema variables captures texts whole ≡ captured captures (property_use schema property (variable_of variables variable))
 unfolding meant
 meant-Property schema variables captures texts whole variable property at is = fold-Property Expr (meant_of schema variables captures texts) whole variable property at is
@@ -167,7 +167,7 @@ unfolding meant
 meant-IsNull schema variables captures texts whole inside negated at is = fold-IsNull Expr (meant_of schema variables captures texts) whole inside negated at is
 
 pub meant-Binary : (schema : SchemaLists) (variables : List Declared) (captures : List Capture) (texts : List (List ℕ)) (whole : AstExpr) (op : Op) (left right : AstExpr) (at : ℕ)
-    → whole ≡ ast.Binary op left right at
+    → whole ≡ ast.Binary op at left right
     → meant schema variables captures texts whole ≡ expr.Binary op (meant schema variables captures texts left) (meant schema variables captures texts right)
 unfolding meant
 meant-Binary schema variables captures texts whole op left right at is = fold-Binary Expr (meant_of schema variables captures texts) whole op left right at is

@@ -114,16 +114,16 @@ module _ (schema : SchemaLists) (variables : List Declared) where
       text = λ content at. told (ast.Text content at) (cases.uses-Text _ _ _ content at refl) tt;
       date = λ content at. told (ast.Date content at) (cases.uses-Date _ _ _ content at refl) tt;
       bool = λ truth at. told (ast.Bool truth at) (cases.uses-Bool _ _ _ truth at refl) tt;
-      name = λ name at. told (ast.Name name at) (cases.uses-Name _ _ _ name at refl) tt;
+      name = λ name at. told (ast.Name at name) (cases.uses-Name _ _ _ name at refl) tt;
       property = λ variable property at.
-          told (ast.Property variable property at) (cases.uses-Property _ _ _ variable property at refl) (use-property property variable (variable_of variables variable) refl);
+          told (ast.Property at variable property) (cases.uses-Property _ _ _ variable property at refl) (use-property property variable (variable_of variables variable) refl);
       id = λ variable at. told (ast.Id variable at) (cases.uses-Id _ _ _ variable at refl) (use-key variable.name (variable_of variables variable.name) refl);
       label = λ variable at. told (ast.Label variable at) (cases.uses-Label _ _ _ variable at refl) (use-label variable.name (variable_of variables variable.name) refl);
       not = λ inside at within. told (ast.Not inside at) (cases.uses-Not _ _ _ inside at refl) within;
       neg = λ inside at within. told (ast.Neg inside at) (cases.uses-Neg _ _ _ inside at refl) within;
       is_null = λ inside negated at within. told (ast.IsNull inside negated at) (cases.uses-IsNull _ _ _ inside negated at refl) within;
       binary = λ op left right at first second.
-          told (ast.Binary op left right at) (cases.uses-Binary _ _ _ op left right at refl)
+          told (ast.Binary op at left right) (cases.uses-Binary _ _ _ op left right at refl)
           (all-join P (uses schema variables left) (uses schema variables right) first second);
     })
 
@@ -176,10 +176,10 @@ module _ (schema : SchemaLists) (variables : List Declared) where
           below (ast.Date content at) (cases.meant-Date _ _ _ _ _ content at refl)
           (parts.below-Constant (date_value (date_cell content)));
       bool = λ truth at all. below (ast.Bool truth at) (cases.meant-Bool _ _ _ _ _ truth at refl) (parts.below-Constant (value.Bool truth));
-      name = λ name at all. below (ast.Name name at) (cases.meant-Name _ _ _ _ _ name at refl) (parts.below-Constant value.Null);
+      name = λ name at all. below (ast.Name at name) (cases.meant-Name _ _ _ _ _ name at refl) (parts.below-Constant value.Null);
       property = λ variable property at all.
-          below (ast.Property variable property at) (cases.meant-Property _ _ _ _ _ variable property at refl)
-          (captured-below (property_use schema property (variable_of variables variable)) (used (ast.Property variable property at) (cases.uses-Property _ _ _ variable property at refl) all));
+          below (ast.Property at variable property) (cases.meant-Property _ _ _ _ _ variable property at refl)
+          (captured-below (property_use schema property (variable_of variables variable)) (used (ast.Property at variable property) (cases.uses-Property _ _ _ variable property at refl) all));
       id = λ variable at all.
           below (ast.Id variable at) (cases.meant-Id _ _ _ _ _ variable at refl)
           (captured-below (use_of what.Id (variable_of variables variable.name)) (used (ast.Id variable at) (cases.uses-Id _ _ _ variable at refl) all));
@@ -196,8 +196,8 @@ module _ (schema : SchemaLists) (variables : List Declared) where
           below (ast.IsNull inside negated at) (cases.meant-IsNull _ _ _ _ _ inside negated at refl)
           (parts.below-IsNull (meant schema variables captures texts inside) negated (within (used (ast.IsNull inside negated at) (cases.uses-IsNull _ _ _ inside negated at refl) all)));
       binary = λ op left right at first second all.
-          let both = all-split IsCaptured (uses schema variables left) (uses schema variables right) (used (ast.Binary op left right at) (cases.uses-Binary _ _ _ op left right at refl) all) in
-          below (ast.Binary op left right at) (cases.meant-Binary _ _ _ _ _ op left right at refl)
+          let both = all-split IsCaptured (uses schema variables left) (uses schema variables right) (used (ast.Binary op at left right) (cases.uses-Binary _ _ _ op left right at refl) all) in
+          below (ast.Binary op at left right) (cases.meant-Binary _ _ _ _ _ op left right at refl)
           (parts.below-Binary op (meant schema variables captures texts left) (meant schema variables captures texts right) (first both.0) (second both.1));
     })
 
@@ -228,9 +228,9 @@ module _ (schema : SchemaLists) (variables : List Declared) where
           valid (ast.Date content at) (cases.meant-Date _ _ _ _ _ content at refl)
           (parts.valid-Constant (date_value (date_cell content)) (day-valid (date_cell content) (date_is_day content)));
       bool = λ truth at all. valid (ast.Bool truth at) (cases.meant-Bool _ _ _ _ _ truth at refl) (parts.valid-Constant (value.Bool truth) tt);
-      name = λ name at all. valid (ast.Name name at) (cases.meant-Name _ _ _ _ _ name at refl) (parts.valid-Constant value.Null tt);
+      name = λ name at all. valid (ast.Name at name) (cases.meant-Name _ _ _ _ _ name at refl) (parts.valid-Constant value.Null tt);
       property = λ variable property at all.
-          valid (ast.Property variable property at) (cases.meant-Property _ _ _ _ _ variable property at refl)
+          valid (ast.Property at variable property) (cases.meant-Property _ _ _ _ _ variable property at refl)
           (captured-valid (property_use schema property (variable_of variables variable)));
       id = λ variable at all.
           valid (ast.Id variable at) (cases.meant-Id _ _ _ _ _ variable at refl)
@@ -248,8 +248,8 @@ module _ (schema : SchemaLists) (variables : List Declared) where
           valid (ast.IsNull inside negated at) (cases.meant-IsNull _ _ _ _ _ inside negated at refl)
           (parts.valid-IsNull (meant schema variables captures texts inside) negated (within (written (ast.IsNull inside negated at) (literal.literals-IsNull _ inside negated at refl) all)));
       binary = λ op left right at first second all.
-          let both = all-split IsText (literals left) (literals right) (written (ast.Binary op left right at) (literal.literals-Binary _ op left right at refl) all) in
-          valid (ast.Binary op left right at) (cases.meant-Binary _ _ _ _ _ op left right at refl)
+          let both = all-split IsText (literals left) (literals right) (written (ast.Binary op at left right) (literal.literals-Binary _ op left right at refl) all) in
+          valid (ast.Binary op at left right) (cases.meant-Binary _ _ _ _ _ op left right at refl)
           (parts.valid-Binary op (meant schema variables captures texts left) (meant schema variables captures texts right) (first both.0) (second both.1));
     })
 

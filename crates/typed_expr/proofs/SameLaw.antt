@@ -109,29 +109,29 @@ told-Bool t s b = by_layer (out-AstExpr b) refl
         not_told (ast.Bool t s) b (test.same-Bool (ast.Bool t s) b t s refl ∙ ap (is_bool t) is)
         (bare.other-Bool (ast.Bool t s) b t s refl (λ u at b_is. let f : ◌≡◌ {A = AstExpr-F AstExpr} other (AstExpr-F.Bool u at) = sym is ∙ ap out-AstExpr b_is ∙ ast.outs-Bool u at in cc))
 
-told-Name : (c : List ℕ) (s : ℕ) → (b : AstExpr) → IsTold (ast.Name c s) b
+told-Name : (c : List ℕ) (s : ℕ) → (b : AstExpr) → IsTold (ast.Name s c) b
 told-Name c s b = by_layer (out-AstExpr b) refl
   where
-    by_layer : (f : AstExpr-F AstExpr) → out-AstExpr b ≡ f → IsTold (ast.Name c s) b
-    by_layer (AstExpr-F.Name d at) is =
-        let both = bare.same-Name (ast.Name c s) b c d s at refl (layered b (AstExpr-F.Name d at) (ast.Name d at) is (ast.rolls-Name d at)) in
-        told (ast.Name c s) b (bytes_eq c d) (c ≡ d)
-        (test.same-Name (ast.Name c s) b c s refl ∙ ap (is_name c) is) (bytes_eq-Decides c d) both.0 both.1
+    by_layer : (f : AstExpr-F AstExpr) → out-AstExpr b ≡ f → IsTold (ast.Name s c) b
+    by_layer (AstExpr-F.Name at d) is =
+        let both = bare.same-Name (ast.Name s c) b c d s at refl (layered b (AstExpr-F.Name at d) (ast.Name at d) is (ast.rolls-Name at d)) in
+        told (ast.Name s c) b (bytes_eq c d) (c ≡ d)
+        (test.same-Name (ast.Name s c) b c s refl ∙ ap (is_name c) is) (bytes_eq-Decides c d) both.0 both.1
     by_layer other is =
-        not_told (ast.Name c s) b (test.same-Name (ast.Name c s) b c s refl ∙ ap (is_name c) is)
-        (bare.other-Name (ast.Name c s) b c s refl (λ d at b_is. let f : ◌≡◌ {A = AstExpr-F AstExpr} other (AstExpr-F.Name d at) = sym is ∙ ap out-AstExpr b_is ∙ ast.outs-Name d at in cc))
+        not_told (ast.Name s c) b (test.same-Name (ast.Name s c) b c s refl ∙ ap (is_name c) is)
+        (bare.other-Name (ast.Name s c) b c s refl (λ d at b_is. let f : ◌≡◌ {A = AstExpr-F AstExpr} other (AstExpr-F.Name at d) = sym is ∙ ap out-AstExpr b_is ∙ ast.outs-Name at d in cc))
 
-told-Property : (v : List ℕ) (p : List ℕ) (s : ℕ) → (b : AstExpr) → IsTold (ast.Property v p s) b
+told-Property : (v : List ℕ) (p : List ℕ) (s : ℕ) → (b : AstExpr) → IsTold (ast.Property s v p) b
 told-Property v p s b = by_layer (out-AstExpr b) refl
   where
-    by_layer : (f : AstExpr-F AstExpr) → out-AstExpr b ≡ f → IsTold (ast.Property v p s) b
-    by_layer (AstExpr-F.Property w q at) is =
-        let both = bare.same-Property (ast.Property v p s) b v p w q s at refl (layered b (AstExpr-F.Property w q at) (ast.Property w q at) is (ast.rolls-Property w q at)) in
-        told (ast.Property v p s) b (bytes_eq v w && bytes_eq p q) ((v ≡ w) × (p ≡ q))
-        (test.same-Property (ast.Property v p s) b v p s refl ∙ ap (is_property v p) is) (Decides-and (bytes_eq v w) (bytes_eq p q) (bytes_eq-Decides v w) (bytes_eq-Decides p q)) (λ e. both.0 e.0 e.1) both.1
+    by_layer : (f : AstExpr-F AstExpr) → out-AstExpr b ≡ f → IsTold (ast.Property s v p) b
+    by_layer (AstExpr-F.Property at w q) is =
+        let both = bare.same-Property (ast.Property s v p) b v p w q s at refl (layered b (AstExpr-F.Property at w q) (ast.Property at w q) is (ast.rolls-Property at w q)) in
+        told (ast.Property s v p) b (bytes_eq v w && bytes_eq p q) ((v ≡ w) × (p ≡ q))
+        (test.same-Property (ast.Property s v p) b v p s refl ∙ ap (is_property v p) is) (Decides-and (bytes_eq v w) (bytes_eq p q) (bytes_eq-Decides v w) (bytes_eq-Decides p q)) (λ e. both.0 e.0 e.1) both.1
     by_layer other is =
-        not_told (ast.Property v p s) b (test.same-Property (ast.Property v p s) b v p s refl ∙ ap (is_property v p) is)
-        (bare.other-Property (ast.Property v p s) b v p s refl (λ w q at b_is. let f : ◌≡◌ {A = AstExpr-F AstExpr} other (AstExpr-F.Property w q at) = sym is ∙ ap out-AstExpr b_is ∙ ast.outs-Property w q at in cc))
+        not_told (ast.Property s v p) b (test.same-Property (ast.Property s v p) b v p s refl ∙ ap (is_property v p) is)
+        (bare.other-Property (ast.Property s v p) b v p s refl (λ w q at b_is. let f : ◌≡◌ {A = AstExpr-F AstExpr} other (AstExpr-F.Property at w q) = sym is ∙ ap out-AstExpr b_is ∙ ast.outs-Property at w q in cc))
 
 told-Id : (v : Placed) (s : ℕ) → (b : AstExpr) → IsTold (ast.Id v s) b
 told-Id v s b = by_layer (out-AstExpr b) refl
@@ -193,19 +193,19 @@ told-IsNull x t s inside b = by_layer (out-AstExpr b) refl
         not_told (ast.IsNull x t s) b (sym (test.same-IsNull (ast.IsNull x t s) b x t s (null_test_inside (out-AstExpr b)) refl refl) ∙ ap (λ f. is_null_test (same x) t (null_test_inside f)) is)
         (bare.other-IsNull (ast.IsNull x t s) b x t s refl (λ y u at b_is. let f : ◌≡◌ {A = AstExpr-F AstExpr} other (AstExpr-F.IsNull y u at) = sym is ∙ ap out-AstExpr b_is ∙ ast.outs-IsNull y u at in cc))
 
-told-Binary : (o : Op) (l : AstExpr) (r : AstExpr) (s : ℕ) → ((y : AstExpr) → IsTold l y) → ((y : AstExpr) → IsTold r y) → (b : AstExpr) → IsTold (ast.Binary o l r s) b
+told-Binary : (o : Op) (l : AstExpr) (r : AstExpr) (s : ℕ) → ((y : AstExpr) → IsTold l y) → ((y : AstExpr) → IsTold r y) → (b : AstExpr) → IsTold (ast.Binary o s l r) b
 told-Binary o l r s left right b = by_layer (out-AstExpr b) refl
   where
-    by_layer : (f : AstExpr-F AstExpr) → out-AstExpr b ≡ f → IsTold (ast.Binary o l r s) b
-    by_layer (AstExpr-F.Binary o' l' r' at) is =
-        let both = bare.same-Binary (ast.Binary o l r s) b o l r o' l' r' s at refl (layered b (AstExpr-F.Binary o' l' r' at) (ast.Binary o' l' r' at) is (ast.rolls-Binary o' l' r' at)) in
-        told (ast.Binary o l r s) b (same_op o o' && same l l' && same r r') (((o ≡ o') × (bare l ≡ bare l')) × (bare r ≡ bare r'))
-        (sym (test.same-Binary (ast.Binary o l r s) b o l r s (sides (out-AstExpr b)) refl refl) ∙ ap (λ f. is_binary o (same l) (same r) (sides f)) is)
+    by_layer : (f : AstExpr-F AstExpr) → out-AstExpr b ≡ f → IsTold (ast.Binary o s l r) b
+    by_layer (AstExpr-F.Binary o' at l' r') is =
+        let both = bare.same-Binary (ast.Binary o s l r) b o l r o' l' r' s at refl (layered b (AstExpr-F.Binary o' at l' r') (ast.Binary o' at l' r') is (ast.rolls-Binary o' at l' r')) in
+        told (ast.Binary o s l r) b (same_op o o' && same l l' && same r r') (((o ≡ o') × (bare l ≡ bare l')) × (bare r ≡ bare r'))
+        (sym (test.same-Binary (ast.Binary o s l r) b o l r s (sides (out-AstExpr b)) refl refl) ∙ ap (λ f. is_binary o (same l) (same r) (sides f)) is)
         (Decides-and (same_op o o' && same l l') (same r r') (Decides-and (same_op o o') (same l l') (Decides-same_op o o') (left l')) (right r'))
         (λ e. both.0 e.0.0 e.0.1 e.1) (λ e. let parts = both.1 e in ((parts.0, parts.1), parts.2))
     by_layer other is =
-        not_told (ast.Binary o l r s) b (sym (test.same-Binary (ast.Binary o l r s) b o l r s (sides (out-AstExpr b)) refl refl) ∙ ap (λ f. is_binary o (same l) (same r) (sides f)) is)
-        (bare.other-Binary (ast.Binary o l r s) b o l r s refl (λ o' l' r' at b_is. let f : ◌≡◌ {A = AstExpr-F AstExpr} other (AstExpr-F.Binary o' l' r' at) = sym is ∙ ap out-AstExpr b_is ∙ ast.outs-Binary o' l' r' at in cc))
+        not_told (ast.Binary o s l r) b (sym (test.same-Binary (ast.Binary o s l r) b o l r s (sides (out-AstExpr b)) refl refl) ∙ ap (λ f. is_binary o (same l) (same r) (sides f)) is)
+        (bare.other-Binary (ast.Binary o s l r) b o l r s refl (λ o' l' r' at b_is. let f : ◌≡◌ {A = AstExpr-F AstExpr} other (AstExpr-F.Binary o' at l' r') = sym is ∙ ap out-AstExpr b_is ∙ ast.outs-Binary o' at l' r' in cc))
 
 pub is_told : (a b : AstExpr) → IsTold a b
 is_told = by_parts (λ a. (b : AstExpr) → IsTold a b) (record {

@@ -27,11 +27,11 @@ pub same-Bool : (a b : AstExpr) (truth : Bool) (at : ℕ) → a ≡ ast.Bool tru
 unfolding same
 same-Bool a b truth at is = ap (λ f. f b) (fold-Bool (AstExpr → Bool) same_step a truth at is)
 
-pub same-Name : (a b : AstExpr) (name : List ℕ) (at : ℕ) → a ≡ ast.Name name at → same a b ≡ is_name name (out-AstExpr b)
+pub same-Name : (a b : AstExpr) (name : List ℕ) (at : ℕ) → a ≡ ast.Name at name → same a b ≡ is_name name (out-AstExpr b)
 unfolding same
 same-Name a b name at is = ap (λ f. f b) (fold-Name (AstExpr → Bool) same_step a name at is)
 
-pub same-Property : (a b : AstExpr) (variable property : List ℕ) (at : ℕ) → a ≡ ast.Property variable property at → same a b ≡ is_property variable property (out-AstExpr b)
+pub same-Property : (a b : AstExpr) (variable property : List ℕ) (at : ℕ) → a ≡ ast.Property at variable property → same a b ≡ is_property variable property (out-AstExpr b)
 unfolding same
 same-Property a b variable property at is = ap (λ f. f b) (fold-Property (AstExpr → Bool) same_step a variable property at is)
 
@@ -56,7 +56,7 @@ pub same-IsNull : (a b inside : AstExpr) (negated : Bool) (at : ℕ) (found : Op
 unfolding same
 same-IsNull a b inside negated at found is view = ap (is_null_test (same inside) negated) view ∙ sym (ap (λ f. f b) (fold-IsNull (AstExpr → Bool) same_step a inside negated at is))
 
-pub same-Binary : (a b : AstExpr) (op : Op) (left right : AstExpr) (at : ℕ) (found : Option (Op × AstExpr × AstExpr)) → a ≡ ast.Binary op left right at → found ≡ sides (out-AstExpr b)
+pub same-Binary : (a b : AstExpr) (op : Op) (left right : AstExpr) (at : ℕ) (found : Option (Op × AstExpr × AstExpr)) → a ≡ ast.Binary op at left right → found ≡ sides (out-AstExpr b)
     → is_binary op (same left) (same right) found ≡ same a b
 unfolding same
 same-Binary a b op left right at found is view = ap (is_binary op (same left) (same right)) view ∙ sym (ap (λ f. f b) (fold-Binary (AstExpr → Bool) same_step a op left right at is))

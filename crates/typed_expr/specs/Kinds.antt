@@ -95,14 +95,14 @@ checked_of schema variables (AstExpr-F.Int number at) = record { at = at; kind =
 checked_of schema variables (AstExpr-F.Text content at) = record { at = at; kind = Ok kind.Text }
 checked_of schema variables (AstExpr-F.Date content at) = record { at = at; kind = date_kind at (date_cell content) }
 checked_of schema variables (AstExpr-F.Bool truth at) = record { at = at; kind = Ok kind.Bool }
-checked_of schema variables (AstExpr-F.Name name at) = record { at = at; kind = used_as (Err (fault.VariableKind at)) at (variable_of variables name) }
-checked_of schema variables (AstExpr-F.Property variable property at) = record { at = at; kind = kind_of_use schema property at (variable_of variables variable) }
+checked_of schema variables (AstExpr-F.Name at name) = record { at = at; kind = used_as (Err (fault.VariableKind at)) at (variable_of variables name) }
+checked_of schema variables (AstExpr-F.Property at variable property) = record { at = at; kind = kind_of_use schema property at (variable_of variables variable) }
 checked_of schema variables (AstExpr-F.Id variable at) = record { at = at; kind = used_as (Ok kind.Int) variable.at (variable_of variables variable.name) }
 checked_of schema variables (AstExpr-F.Label variable at) = record { at = at; kind = used_as (Ok kind.Text) variable.at (variable_of variables variable.name) }
 checked_of schema variables (AstExpr-F.Not inside at) = record { at = at; kind = one_part kind.Bool inside }
 checked_of schema variables (AstExpr-F.Neg inside at) = record { at = at; kind = one_part kind.Int inside }
 checked_of schema variables (AstExpr-F.IsNull inside negated at) = record { at = at; kind = tested inside.kind }
-checked_of schema variables (AstExpr-F.Binary o left right at) = record { at = at; kind = on_kinds (operated o left.at right.at) left.kind right.kind }
+checked_of schema variables (AstExpr-F.Binary o at left right) = record { at = at; kind = on_kinds (operated o left.at right.at) left.kind right.kind }
 
 -- an expression's place, and its kind or the first fault in it
 unfoldable pub checked : SchemaLists → List Declared → AstExpr → Checked

@@ -35,14 +35,14 @@ meant_of schema variables captures texts (AstExpr-F.Int number at) = expr.Consta
 meant_of schema variables captures texts (AstExpr-F.Text content at) = expr.Constant (value.Text (number_of texts content))
 meant_of schema variables captures texts (AstExpr-F.Date content at) = expr.Constant (date_value (date_cell content))
 meant_of schema variables captures texts (AstExpr-F.Bool truth at) = expr.Constant (value.Bool truth)
-meant_of schema variables captures texts (AstExpr-F.Name name at) = expr.Constant value.Null
-meant_of schema variables captures texts (AstExpr-F.Property variable property at) = captured captures (property_use schema property (variable_of variables variable))
+meant_of schema variables captures texts (AstExpr-F.Name at name) = expr.Constant value.Null
+meant_of schema variables captures texts (AstExpr-F.Property at variable property) = captured captures (property_use schema property (variable_of variables variable))
 meant_of schema variables captures texts (AstExpr-F.Id variable at) = captured captures (use_of what.Id (variable_of variables variable.name))
 meant_of schema variables captures texts (AstExpr-F.Label variable at) = captured captures (use_of what.Label (variable_of variables variable.name))
 meant_of schema variables captures texts (AstExpr-F.Not inside at) = expr.Not inside
 meant_of schema variables captures texts (AstExpr-F.Neg inside at) = expr.Neg inside
 meant_of schema variables captures texts (AstExpr-F.IsNull inside negated at) = expr.IsNull inside negated
-meant_of schema variables captures texts (AstExpr-F.Binary o left right at) = expr.Binary o left right
+meant_of schema variables captures texts (AstExpr-F.Binary o at left right) = expr.Binary o left right
 
 -- what an expression means
 unfoldable pub meant : SchemaLists → List Declared → List Capture → List (List ℕ) → AstExpr → Expr

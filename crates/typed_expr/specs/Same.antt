@@ -54,11 +54,11 @@ is_bool truth (AstExpr-F.Bool other at) = same_truth truth other
 is_bool truth other = false
 
 abbrev pub is_name : List ℕ → AstExpr-F AstExpr → Bool
-is_name name (AstExpr-F.Name other at) = same_bytes name other
+is_name name (AstExpr-F.Name at other) = same_bytes name other
 is_name name other = false
 
 abbrev pub is_property : List ℕ → List ℕ → AstExpr-F AstExpr → Bool
-is_property variable property (AstExpr-F.Property other other_property at) = same_bytes variable other && same_bytes property other_property
+is_property variable property (AstExpr-F.Property at other other_property) = same_bytes variable other && same_bytes property other_property
 is_property variable property other = false
 
 abbrev pub is_id : List ℕ → AstExpr-F AstExpr → Bool
@@ -82,7 +82,7 @@ null_test_inside (AstExpr-F.IsNull inside negated at) = Some (inside, negated)
 null_test_inside other = None
 
 abbrev pub sides : AstExpr-F AstExpr → Option (Op × AstExpr × AstExpr)
-sides (AstExpr-F.Binary o left right at) = Some (o, left, right)
+sides (AstExpr-F.Binary o at left right) = Some (o, left, right)
 sides other = None
 
 abbrev pub is_inside : (AstExpr → Bool) → Option AstExpr → Bool
@@ -102,14 +102,14 @@ same_of (AstExpr-F.Int number at) = is_int number
 same_of (AstExpr-F.Text content at) = is_text content
 same_of (AstExpr-F.Date content at) = is_date content
 same_of (AstExpr-F.Bool truth at) = is_bool truth
-same_of (AstExpr-F.Name name at) = is_name name
-same_of (AstExpr-F.Property variable property at) = is_property variable property
+same_of (AstExpr-F.Name at name) = is_name name
+same_of (AstExpr-F.Property at variable property) = is_property variable property
 same_of (AstExpr-F.Id variable at) = is_id variable.name
 same_of (AstExpr-F.Label variable at) = is_label variable.name
 same_of (AstExpr-F.Not inside at) = λ other. is_inside inside (not_inside other)
 same_of (AstExpr-F.Neg inside at) = λ other. is_inside inside (neg_inside other)
 same_of (AstExpr-F.IsNull inside negated at) = λ other. is_null_test inside negated (null_test_inside other)
-same_of (AstExpr-F.Binary o left right at) = λ other. is_binary o left right (sides other)
+same_of (AstExpr-F.Binary o at left right) = λ other. is_binary o left right (sides other)
 
 -- equal apart from places
 unfoldable pub same : AstExpr → AstExpr → Bool

@@ -32,7 +32,7 @@ use Rattle.pattern_scope.specs.Scope.{scope_of}
 use Rattle.typed_expr.specs.Uses.{uses, with_use}
 
 abbrev pub alone_of : AstExpr-F (Option (List ℕ)) → Option (List ℕ)
-alone_of (AstExpr-F.Name name at) = Some name
+alone_of (AstExpr-F.Name at name) = Some name
 alone_of other = None
 
 -- the name that an expression is, where it is a name alone

@@ -44,14 +44,14 @@ uses_of schema variables (AstExpr-F.Int number at) = []
 uses_of schema variables (AstExpr-F.Text content at) = []
 uses_of schema variables (AstExpr-F.Date content at) = []
 uses_of schema variables (AstExpr-F.Bool truth at) = []
-uses_of schema variables (AstExpr-F.Name name at) = []
-uses_of schema variables (AstExpr-F.Property variable property at) = cons_option (property_use schema property (variable_of variables variable)) []
+uses_of schema variables (AstExpr-F.Name at name) = []
+uses_of schema variables (AstExpr-F.Property at variable property) = cons_option (property_use schema property (variable_of variables variable)) []
 uses_of schema variables (AstExpr-F.Id variable at) = cons_option (use_of what.Id (variable_of variables variable.name)) []
 uses_of schema variables (AstExpr-F.Label variable at) = cons_option (use_of what.Label (variable_of variables variable.name)) []
 uses_of schema variables (AstExpr-F.Not inside at) = inside
 uses_of schema variables (AstExpr-F.Neg inside at) = inside
 uses_of schema variables (AstExpr-F.IsNull inside negated at) = inside
-uses_of schema variables (AstExpr-F.Binary op left right at) = left ++ right
+uses_of schema variables (AstExpr-F.Binary op at left right) = left ++ right
 
 -- its uses of variables
 unfoldable pub uses : SchemaLists → List Declared → AstExpr → List Capture

@@ -1,5 +1,5 @@
 //! All faults of a query.
-ghost use Rattle.std.specs.Prelude.{◌≡◌, ◌++◌, [], List, IfOk, OnOk, flat_map, map};
+ghost use Rattle.std.specs.Prelude.{◌≡◌, ◌++◌, [], List, IfOk, OnOk, Some, flat_map, map};
 ghost use Rattle.std.specs.Bool.{OnTrue};
 ghost use Rattle.pgql_tree.specs.declared.ast.Item.{Item};
 ghost use Rattle.typed_expr.specs.Kinds as kinds;
@@ -15,7 +15,7 @@ use pattern_scope::fault::TypeFault;
 use pattern_scope::joined::add_disconnected;
 use pattern_scope::scope::Scope;
 use pgql_tree::{Ast, AstExpr, Item, Key, Placed};
-use sqlite_items::Items;
+use sqlite_items::{Boxed, Items};
 use std::alloc::Global;
 use value_text::Texts;
 
@@ -54,19 +54,30 @@ fn add_item_faults(
     Ok(())
 }
 
+fn add_if_double(
+    earlier: &Declarations,
+    placed: &Placed,
+    faults: &mut Items<TypeFault>,
+) -> Result<(), NoMemory>
+    ensures { (items : List Item) → earlier.now ≡ map spec.as_declared items → OnOk result (faults.new ≡ faults.old ++ spec.double_name items (Some placed.now)) }
+{
+    if earlier.variable_of(&placed.name).is_some() {
+        faults.push(TypeFault::DoubleName(placed.at))?;
+    }
+    Ok(())
+}
+
 fn add_double_name(
     earlier: &Declarations,
-    name: &Option<Placed>,
+    name: &Option<Boxed<Placed>>,
     faults: &mut Items<TypeFault>,
 ) -> Result<(), NoMemory>
     ensures { (items : List Item) → earlier.now ≡ map spec.as_declared items → OnOk result (faults.new ≡ faults.old ++ spec.double_name items name.now) }
 {
-    if let Some(placed) = name {
-        if earlier.variable_of(&placed.name).is_some() {
-            faults.push(TypeFault::DoubleName(placed.at))?;
-        }
+    match name {
+        Some(placed) => add_if_double(earlier, placed.get(), faults),
+        None => Ok(()),
     }
-    Ok(())
 }
 
 // Adds the faults of AS names, and the names.

@@ -1,13 +1,13 @@
 //! Which select item an order key stands for.
-ghost use Rattle.std.specs.Prelude.{◌≡◌, ◌∷◌, ◌++◌, [], OnOk, find, map};
-ghost use Rattle.std.specs.Option.{option_copied};
+ghost use Rattle.std.specs.Prelude.{◌≡◌, ◌∷◌, ◌++◌, [], IfOk, OnOk, find, map};
+ghost use Rattle.std.specs.Option.{option_copied, option_map};
 ghost use Rattle.typed_expr.specs.Typed as spec;
 
 use adfs_base::{Name, NoMemory};
 use pattern_scope::declarations::Declarations;
-use pattern_scope::scope::{Declared, name_of};
+use pattern_scope::scope::{Declared, boxed};
 use pgql_tree::{AstExpr, Item};
-use sqlite_items::at;
+use sqlite_items::{Boxed, at};
 use std::alloc::Global;
 
 /// The select items, with that for which their AS names stand.
@@ -17,14 +17,21 @@ pub struct Columns<'a> {
     pub names: &'a Declarations,
 }
 
+// The AS name of an item, if it has one, as a name of its own.
+fn name_in(alloc: Global, item: &Item) -> Result<Option<Boxed<Name>>, NoMemory>
+    ensures { IfOk result (λ name. name ≡ option_map (λ own. own.name) item.now.name) }
+{
+    match &item.name {
+        Some(placed) => Ok(Some(boxed(alloc, &placed.get().name)?)),
+        None => Ok(None),
+    }
+}
+
 /// Adds the AS name of an item, if it has one.
 pub fn add_name(alloc: Global, item: &Item, names: &mut Declarations) -> Result<(), NoMemory>
     ensures { OnOk result (names.new ≡ names.old ++ spec.as_declared item.now ∷ []) }
 {
-    let name = match &item.name {
-        Some(placed) => name_of(alloc, Some(&placed.name))?,
-        None => None,
-    };
+    let name = name_in(alloc, item)?;
     names.push(Declared { name, edge: false })
 }
 

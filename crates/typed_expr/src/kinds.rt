@@ -10,8 +10,8 @@ use adfs_base::{Kind, Name};
 use graph_tables::Schema;
 use pattern_scope::declarations::Declarations;
 use pattern_scope::fault::TypeFault;
-use pgql_tree::{AstExpr, Op};
-use sqlite_items::Items;
+use pgql_tree::{AstExpr, Content, Op, Placed};
+use sqlite_items::Boxed;
 use value_text::read_date;
 
 /// An expression's place, and its kind or the first fault in it.
@@ -168,7 +168,7 @@ fn two_parts(op: Op, left: Checked, right: Checked) -> Result<Kind, TypeFault>
     }
 }
 
-fn date_kind(content: &Items<u8>, at: u32) -> Result<Kind, TypeFault>
+fn date_kind(content: &Content, at: u32) -> Result<Kind, TypeFault>
     ensures { result ≡ spec.date_kind at (date_cell content.now) }
 {
     match read_date(content.as_slice()) {
@@ -192,6 +192,18 @@ fn used_as(
     }
 }
 
+// The same of a call's variable.
+fn called_as(
+    kind: Result<Kind, TypeFault>,
+    variable: &Boxed<Placed>,
+    variables: &Declarations,
+) -> Result<Kind, TypeFault>
+    ensures { result ≡ spec.used_as kind variable.now.at (variable_of variables.now variable.now.name) }
+{
+    let variable = variable.get();
+    used_as(kind, &variable.name, variable.at, variables)
+}
+
 /// The property of a vertex or of an edge.
 pub fn property_in(schema: &Schema, edge: bool, name: &Name) -> Option<(u32, Kind)>
     ensures { result ≡ spec.property_in schema.now edge name.now }
@@ -204,16 +216,16 @@ pub fn property_in(schema: &Schema, edge: bool, name: &Name) -> Option<(u32, Kin
 }
 
 fn property_kind(
-    variable: &Name,
-    property: &Name,
+    variable: &Boxed<Name>,
+    property: &Boxed<Name>,
     at: u32,
     variables: &Declarations,
     schema: &Schema,
 ) -> Result<Kind, TypeFault>
     ensures { result ≡ spec.kind_of_use schema.now property.now at (variable_of variables.now variable.now) }
 {
-    match variables.variable_of(variable) {
-        Some((_, edge)) => match property_in(schema, edge, property) {
+    match variables.variable_of(variable.get()) {
+        Some((_, edge)) => match property_in(schema, edge, property.get()) {
             Some((_, kind)) => Ok(kind),
             None => Err(TypeFault::UnknownProperty(at)),
         },
@@ -250,11 +262,11 @@ pub fn check(expr: &AstExpr, variables: &Declarations, schema: &Schema) -> Check
             found(*at, kind)
         }
         AstExpr::Id { variable, at } => {
-            let kind = used_as(Ok(Kind::Int), &variable.name, variable.at, variables);
+            let kind = called_as(Ok(Kind::Int), variable, variables);
             found(*at, kind)
         }
         AstExpr::Label { variable, at } => {
-            let kind = used_as(Ok(Kind::Text), &variable.name, variable.at, variables);
+            let kind = called_as(Ok(Kind::Text), variable, variables);
             found(*at, kind)
         }
         AstExpr::Not { inside, at } => {

@@ -16,7 +16,7 @@ use adfs_base::{Name, NoMemory, Value};
 use graph_tables::Schema;
 use pattern_scope::declarations::Declarations;
 use pattern_scope::scope::short;
-use pgql_tree::{AstExpr, Op};
+use pgql_tree::{AstExpr, Content, Op, Placed};
 use sqlite_items::{Boxed, Items};
 use std::alloc::Global;
 use value_text::{Texts, read_date};
@@ -46,7 +46,7 @@ fn int_value(number: &i64) -> Value
     Value::Int(*number)
 }
 
-fn date_value(content: &Items<u8>) -> Value
+fn date_value(content: &Content) -> Value
     ensures { result ≡ spec.date_value (date_cell content.now) }
 {
     match read_date(content.as_slice()) {
@@ -55,7 +55,7 @@ fn date_value(content: &Items<u8>) -> Value
     }
 }
 
-fn text_value(content: &Items<u8>, texts: &Texts) -> Value
+fn text_value(content: &Content, texts: &Texts) -> Value
     ensures { result ≡ Value.Text (number_of texts.now content.now) }
 {
     match texts.find(content.as_slice()) {
@@ -65,15 +65,19 @@ fn text_value(content: &Items<u8>, texts: &Texts) -> Value
 }
 
 // What the key or the label of a variable means.
-fn meant_use(what: What, variable: &Name, scene: Scene<'_>) -> Result<Expr, NoMemory>
-    ensures { IfOk result (λ found. found ≡ spec.captured scene.entry.captures.now (uses.use_of what (variable_of scene.entry.variables.now variable.now))) }
+fn meant_use(what: What, variable: &Boxed<Placed>, scene: Scene<'_>) -> Result<Expr, NoMemory>
+    ensures { IfOk result (λ found. found ≡ spec.captured scene.entry.captures.now (uses.use_of what (variable_of scene.entry.variables.now variable.now.name))) }
 {
     let used = use_of(what, variable, scene.variables)?;
     captured(scene.captures, used)
 }
 
 // What a property of a variable means.
-fn meant_property(variable: &Name, property: &Name, scene: Scene<'_>) -> Result<Expr, NoMemory>
+fn meant_property(
+    variable: &Boxed<Name>,
+    property: &Boxed<Name>,
+    scene: Scene<'_>,
+) -> Result<Expr, NoMemory>
     ensures { IfOk result (λ found. found ≡ spec.captured scene.entry.captures.now (uses.property_use scene.entry.schema.now property.now (variable_of scene.entry.variables.now variable.now))) }
 {
     let used = property_use(variable, property, scene.variables, scene.schema)?;
@@ -135,8 +139,8 @@ pub fn meant(expr: &AstExpr, scene: Scene<'_>) -> Result<Expr, NoMemory>
             property,
             ..
         } => meant_property(variable, property, scene),
-        AstExpr::Id { variable, .. } => meant_use(What::Id, &variable.name, scene),
-        AstExpr::Label { variable, .. } => meant_use(What::Label, &variable.name, scene),
+        AstExpr::Id { variable, .. } => meant_use(What::Id, variable, scene),
+        AstExpr::Label { variable, .. } => meant_use(What::Label, variable, scene),
         AstExpr::Not { inside, .. } => negation(scene.alloc, meant(inside.get(), scene)?),
         AstExpr::Neg { inside, .. } => minus(scene.alloc, meant(inside.get(), scene)?),
         AstExpr::IsNull {

@@ -11,17 +11,18 @@ use adfs_base::{Name, NoMemory};
 use graph_tables::Schema;
 use pattern_scope::declarations::Declarations;
 use pattern_scope::scope::short;
-use pgql_tree::AstExpr;
+use pgql_tree::{AstExpr, Placed};
+use sqlite_items::Boxed;
 
 /// The use of a variable's key or label.
 pub fn use_of(
     what: What,
-    variable: &Name,
+    variable: &Boxed<Placed>,
     variables: &Declarations,
 ) -> Result<Option<Capture>, NoMemory>
-    ensures { IfOk result (λ used. used ≡ spec.use_of what (names.variable_of variables.now variable.now)) }
+    ensures { IfOk result (λ used. used ≡ spec.use_of what (names.variable_of variables.now variable.now.name)) }
 {
-    match variables.variable_of(variable) {
+    match variables.variable_of(&variable.get().name) {
         None => Ok(None),
         Some((number, _)) => {
             let variable = short(number)?;
@@ -32,16 +33,16 @@ pub fn use_of(
 
 /// The use of a variable's property.
 pub fn property_use(
-    variable: &Name,
-    property: &Name,
+    variable: &Boxed<Name>,
+    property: &Boxed<Name>,
     variables: &Declarations,
     schema: &Schema,
 ) -> Result<Option<Capture>, NoMemory>
     ensures { IfOk result (λ used. used ≡ spec.property_use schema.now property.now (names.variable_of variables.now variable.now)) }
 {
-    match variables.variable_of(variable) {
+    match variables.variable_of(variable.get()) {
         None => Ok(None),
-        Some((number, edge)) => match property_in(schema, edge, property) {
+        Some((number, edge)) => match property_in(schema, edge, property.get()) {
             None => Ok(None),
             Some((place, kind)) => {
                 let variable = short(number)?;
@@ -83,11 +84,11 @@ pub fn add_uses(
             add_use(found, used)
         }
         AstExpr::Id { variable, .. } => {
-            let used = use_of(What::Id, &variable.name, variables)?;
+            let used = use_of(What::Id, variable, variables)?;
             add_use(found, used)
         }
         AstExpr::Label { variable, .. } => {
-            let used = use_of(What::Label, &variable.name, variables)?;
+            let used = use_of(What::Label, variable, variables)?;
             add_use(found, used)
         }
         AstExpr::Not { inside, .. } => add_uses(inside.get(), variables, schema, found),

@@ -116,6 +116,7 @@ pub(crate) fn date_bytes(day: i32) -> [u8; 10]
 {
     match Date::from_unix_epoch_day(day as i64) {
         Ok(date) => spelled(date.year as u16, date.month, date.day),
+        // It doesn't come: the calendar has the day (`IsDay`).
         Err(_) => [0; 10],
     }
 }

@@ -1,3 +1,4 @@
+pub mod Advancing
 pub mod Bodies
 pub mod Bounds
 pub mod Ends

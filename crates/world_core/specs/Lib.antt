@@ -1,4 +1,6 @@
+pub mod Advances
 pub mod Bound
+pub mod Families
 pub mod Gauge
 pub mod May
 pub mod Owed

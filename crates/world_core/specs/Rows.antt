@@ -1,5 +1,5 @@
 -- The rows of all workers.
-use Rattle.std.specs.Prelude.{◌≡◌, ℕ, List, [], ◌∷◌, ◌++◌}
+use Rattle.std.specs.Prelude.{◌≡◌, ℕ, List, [], ◌∷◌, ◌++◌, zero, suc}
 use Rattle.adfs_base.specs.Shape.{Extents, IsShape}
 use Rattle.match_context.specs.declared.context.Context.{Context}
 use Rattle.match_context.specs.Bags.{SameBag}
@@ -15,10 +15,16 @@ abbrev pub all_rows : List State → List Context
 all_rows [] = []
 all_rows (worker ∷ workers) = worker.rows ++ all_rows workers
 
--- the workers, with no row left
-abbrev pub without_rows : List State → List State
-without_rows [] = []
-without_rows (worker ∷ workers) = record worker { rows = [] } ∷ without_rows workers
+-- the rows of one worker, and the workers when these are taken
+abbrev pub rows_at : List State → ℕ → List Context
+rows_at [] i = []
+rows_at (worker ∷ workers) zero = worker.rows
+rows_at (worker ∷ workers) (suc i) = rows_at workers i
+
+abbrev pub without_rows_at : List State → ℕ → List State
+without_rows_at [] i = []
+without_rows_at (worker ∷ workers) zero = record worker { rows = [] } ∷ workers
+without_rows_at (worker ∷ workers) (suc i) = worker ∷ without_rows_at workers i
 
 -- All stages are closed.
 abbrev pub IsFinished : World → Type 0

@@ -3,10 +3,13 @@ ghost use Rattle.std.specs.Prelude.{◌≡◌, OnOk, OnErr};
 ghost use Rattle.dfs_worker.specs.declared.event.Event.TheVariants as kind;
 ghost use Rattle.dfs_worker.specs.Own.{AddsRow, retired, charged, fetched, posted, freed, picked, restored, event_word, marked};
 ghost use Rattle.fabric.specs.Calls.{empty_buffer, pop_answer};
+ghost use Rattle.match_context.specs.Tree.{Tree};
+ghost use Rattle.world_core.specs.Families.{family_of};
 ghost use Rattle.world_core.specs.May.{May};
 ghost use Rattle.world_core.specs.Step.{own_part, popped_as, shared_part, worker_of};
 ghost use Rattle.world_core.specs.World.{Fits};
 
+use crate::family::{Family, family_of};
 use crate::guards::word_of;
 use adfs_base::{Claimed, NoMemory};
 use dfs_worker::{Event, Hand, Worker};
@@ -134,6 +137,58 @@ pub fn close(worker: &mut Worker, fabric: &mut PlainFabric)
     let _ = fabric.close(worker.number());
 }
 
+// The change of an event that is of the worker alone, but for an answer of its top, or that ends what it does.
+fn make_alone(worker: &mut Worker, fabric: &mut PlainFabric, event: &Event)
+    requires may { May event.now fabric.old worker.old }
+    requires number { worker.old.number ≡ worker_of event.now }
+    requires family { family_of event.now ≡ Family.Alone }
+    ensures own { (tree : Tree) → worker.new ≡ own_part tree event.now fabric.old worker.old }
+    ensures shared { fabric.new ≡ shared_part event.now worker.old fabric.old }
+{
+    match event {
+        Event::Retire { .. } => retire(worker, fabric),
+        Event::Descend { .. } => worker.descend(),
+        Event::Append { .. } => worker.append(),
+        Event::Mark { a, b, .. } => mark(worker, fabric, *a, *b),
+        Event::Close { .. } => close(worker, fabric),
+        _ => {}
+    }
+}
+
+// The change of an event by which a child gets a buffer, and a buffer leaves.
+fn make_outward(worker: &mut Worker, fabric: &mut PlainFabric, event: &Event)
+    requires may { May event.now fabric.old worker.old }
+    requires number { worker.old.number ≡ worker_of event.now }
+    requires family { family_of event.now ≡ Family.Outward }
+    ensures own { (tree : Tree) → worker.new ≡ own_part tree event.now fabric.old worker.old }
+    ensures shared { fabric.new ≡ shared_part event.now worker.old fabric.old }
+{
+    match event {
+        Event::Charge { .. } => charge(worker, fabric),
+        Event::Fetch { .. } => fetch(worker, fabric),
+        Event::Post { stage, to, .. } => post(worker, fabric, *stage, *to),
+        Event::Push { .. } => push(worker, fabric),
+        _ => {}
+    }
+}
+
+// The change of an event by which a buffer comes in, and goes back.
+fn make_inward(worker: &mut Worker, fabric: &mut PlainFabric, event: &Event)
+    requires may { May event.now fabric.old worker.old }
+    requires number { worker.old.number ≡ worker_of event.now }
+    requires family { family_of event.now ≡ Family.Inward }
+    ensures own { (tree : Tree) → worker.new ≡ own_part tree event.now fabric.old worker.old }
+    ensures shared { fabric.new ≡ shared_part event.now worker.old fabric.old }
+{
+    match event {
+        Event::Pop { stage, .. } => pop(worker, fabric, *stage),
+        Event::Pick { .. } => pick(worker, fabric),
+        Event::Restore { .. } => restore(worker, fabric),
+        Event::Discharge { .. } => discharge(worker, fabric),
+        _ => {}
+    }
+}
+
 /// The event's change, all of whose guards hold. After `NoMemory`, which only a row may meet, nothing is changed.
 pub fn make<X: Expand>(
     worker: &mut Worker,
@@ -148,22 +203,12 @@ pub fn make<X: Expand>(
     ensures shared { OnOk result (fabric.new ≡ shared_part event.now worker.old fabric.old) }
     ensures err { OnErr result ((worker.new ≡ worker.old) × (fabric.new ≡ fabric.old) × (event.now ≡ kind.Advance worker.old.number) × AddsRow (X.tree x.now) worker.old.machine worker.old.stack) }
 {
-    match event {
-        Event::Claim { .. } => claim(worker, fabric, x),
-        Event::Retire { .. } => retire(worker, fabric),
-        Event::Advance { .. } => worker.advance(x)?,
-        Event::Descend { .. } => worker.descend(),
-        Event::Append { .. } => worker.append(),
-        Event::Charge { .. } => charge(worker, fabric),
-        Event::Fetch { .. } => fetch(worker, fabric),
-        Event::Post { stage, to, .. } => post(worker, fabric, *stage, *to),
-        Event::Push { .. } => push(worker, fabric),
-        Event::Pop { stage, .. } => pop(worker, fabric, *stage),
-        Event::Pick { .. } => pick(worker, fabric),
-        Event::Restore { .. } => restore(worker, fabric),
-        Event::Discharge { .. } => discharge(worker, fabric),
-        Event::Mark { a, b, .. } => mark(worker, fabric, *a, *b),
-        Event::Close { .. } => close(worker, fabric),
+    match family_of(event) {
+        Family::Roots => claim(worker, fabric, x),
+        Family::Answers => worker.advance(x)?,
+        Family::Alone => make_alone(worker, fabric, event),
+        Family::Outward => make_outward(worker, fabric, event),
+        Family::Inward => make_inward(worker, fabric, event),
     }
     Ok(())
 }

@@ -1,49 +1,33 @@
 //! The rows of all workers, put together.
-ghost use Rattle.std.specs.Prelude.{◌≡◌, ◌+◌, ◌≤◌, ◌++◌, [], length, vec_capacity, IfSome};
-ghost use Rattle.world_core.specs.Rows.{all_rows, without_rows};
+ghost use Rattle.std.specs.Prelude.{◌≡◌, ◌++◌, IfOk, OnOk};
+ghost use Rattle.world_core.specs.Rows.{all_rows};
 
-use dfs_worker::Worker;
+use crate::world::World;
+use adfs_base::NoMemory;
 use match_context::Context;
 
-/// How many rows there are, where that can be counted.
-pub fn row_count(workers: &[Worker]) -> Option<usize>
-    ensures { IfSome result (λ count. count ≡ length (all_rows workers.now)) }
+// Adds rows to those so far. Where there were none, their list serves for all.
+fn add(rows: &mut Vec<Context>, own: Vec<Context>) -> Result<(), NoMemory>
+    ensures { OnOk result (rows.new.items ≡ rows.old.items ++ own.items) }
 {
-    let mut count: usize = 0;
-    for worker in workers {
-        count = count.checked_add(worker.rows().len())?;
+    if rows.is_empty() {
+        *rows = own;
+        return Ok(());
     }
-    Some(count)
-}
-
-// The rows so far and those of one worker. Where these are all that there are, their list serves for all.
-fn joined(rows: Vec<Context>, own: Vec<Context>, count: usize) -> Vec<Context>
-    requires fits { length rows.items + length own.items ≤ count }
-    requires room { count ≤ vec_capacity rows }
-    ensures items { result.items ≡ rows.items ++ own.items }
-    ensures room { count ≤ vec_capacity result }
-{
-    if own.len() == count {
-        return own;
-    }
-    let mut rows = rows;
     let mut own = own;
-    let _ = rows.append(&mut own);
-    rows
+    rows.append(&mut own)?;
+    Ok(())
 }
 
-/// The rows of all workers, in the order of the workers, in this room. No worker keeps any.
-pub fn gather(workers: &mut [Worker], room: Vec<Context>, count: usize) -> Vec<Context>
-    requires count { count ≡ length (all_rows workers.old) }
-    requires room { count ≤ vec_capacity room }
-    requires empty { room.items ≡ [] }
-    ensures rows { result.items ≡ all_rows workers.old }
-    ensures left { workers.new ≡ without_rows workers.old }
+/// The rows of all workers, in the order of the workers. No worker keeps any.
+pub fn take_all(world: &mut World) -> Result<Vec<Context>, NoMemory>
+    ensures { IfOk result (λ rows. rows.items ≡ all_rows world.old.workers) }
 {
-    let mut rows = room;
-    for w in 0..workers.len() {
-        let own = workers[w].take_rows();
-        rows = joined(rows, own, count);
+    let count = world.workers().len();
+    let mut rows = world.take_rows(0);
+    for w in 1..count {
+        let own = world.take_rows(w as u32);
+        add(&mut rows, own)?;
     }
-    rows
+    Ok(rows)
 }

@@ -1,5 +1,5 @@
 //! The guards of each event that look at what is shared.
-ghost use Rattle.std.specs.Prelude.{◌≡◌, Some, None, if◌then◌else◌};
+ghost use Rattle.std.specs.Prelude.{◌≡◌, ◌↔◌, IsTrue, Some, None, if◌then◌else◌};
 ghost use Rattle.dfs_worker.specs.declared.event.Event.TheVariants as kind;
 ghost use Rattle.dfs_worker.specs.Own.{event_word};
 ghost use Rattle.fabric.specs.Shared.{Shared};
@@ -36,6 +36,7 @@ pub fn worker_of(event: &Event) -> u32
 }
 
 // The guard that fails where the test does, else none.
+#[inline(always)]
 fn unless(test: bool, guard: Guard) -> Option<Guard>
     ensures { result ≡ (if test then None else Some guard) }
 {
@@ -133,6 +134,7 @@ fn pick_guard(fabric: &PlainFabric, worker: &Worker) -> Option<Guard>
 }
 
 /// The guard of the event on what is shared, where it fails.
+#[inline(always)]
 pub fn shared_guard(fabric: &PlainFabric, worker: &Worker, event: &Event) -> Option<Guard>
     requires { IsPart fabric.now worker.now }
     ensures { result ≡ shared_guard event.now worker.now fabric.now }
@@ -152,6 +154,7 @@ pub fn shared_guard(fabric: &PlainFabric, worker: &Worker, event: &Event) -> Opt
 }
 
 /// The first guard of the event that fails.
+#[inline(always)]
 pub fn first_guard(workers: &[Worker], fabric: &PlainFabric, event: &Event) -> Option<Guard>
     requires { Sound (world_of workers.now fabric.now) }
     ensures { result ≡ guard_of (world_of workers.now fabric.now) event.now }
@@ -162,5 +165,17 @@ pub fn first_guard(workers: &[Worker], fabric: &PlainFabric, event: &Event) -> O
     match worker.guard(event) {
         Some(guard) => Some(guard),
         None => shared_guard(fabric, worker, event),
+    }
+}
+
+/// Whether the worker's top has an answer to give now.
+#[inline(always)]
+pub fn may_advance(workers: &[Worker], fabric: &PlainFabric, w: u32) -> bool
+    ensures { IsTrue result ↔ (guard_of (world_of workers.now fabric.now) (kind.Advance w) ≡ None) }
+{
+    let _ = fabric;
+    match workers.get(w as usize) {
+        Some(worker) => worker.may_advance(),
+        None => false,
     }
 }

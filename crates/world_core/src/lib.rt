@@ -27,6 +27,7 @@
 #![tactic(auto)]
 
 mod events;
+mod family;
 mod gather;
 mod gauge;
 mod guards;

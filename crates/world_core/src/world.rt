@@ -1,9 +1,11 @@
 //! All workers and what they share, as one value.
 ghost use Rattle.std.specs.Prelude.{◌≡◌, ◌*◌, ◌<◌, ◌≤◌, ◌↔◌, IsTrue, IfOk, OnOk, OnErr, length, slice_get, Some, None};
+ghost use Rattle.dfs_worker.specs.declared.event.Event.TheVariants as kind;
 ghost use Rattle.dfs_worker.specs.Sound.{IsWorker};
+ghost use Rattle.world_core.specs.Advances.{AreMade};
 ghost use Rattle.world_core.specs.Sound.{Sound};
 ghost use Rattle.world_core.specs.Reach.{CanReach};
-ghost use Rattle.world_core.specs.Rows.{IsFinished, all_rows, without_rows};
+ghost use Rattle.world_core.specs.Rows.{IsFinished, all_rows, rows_at, without_rows_at};
 ghost use Rattle.adfs_base.specs.Shape.{IsShape};
 ghost use Rattle.world_core.specs.Owed.{owed};
 ghost use Rattle.world_core.specs.Sound.{Sound};
@@ -13,8 +15,8 @@ ghost use Rattle.world_core.specs.Work.{work_left};
 ghost use Rattle.world_core.specs.World.{Fits, world_of, fresh_workers, roots_of, start_world};
 
 use crate::events::make;
-use crate::gather::{gather, row_count};
-use crate::guards::{first_guard, worker_of};
+use crate::gather::take_all;
+use crate::guards::{first_guard, may_advance, worker_of};
 use crate::stepped::Stepped;
 use adfs_base::{NoMemory, Shape};
 use dfs_worker::{Event, Guard, Worker};
@@ -61,6 +63,7 @@ impl World {
     }
 
     /// The worker of this number.
+    #[inline(always)]
     pub fn worker(&self, w: u32) -> &Worker
         requires { w < length self.now.workers }
         ensures at { slice_get self.now.workers w ≡ Some result.now }
@@ -101,6 +104,7 @@ impl World {
     }
 
     /// The same, which no tree has a say in.
+    #[inline(always)]
     pub fn guard(&self, event: &Event) -> Option<Guard>
         ensures { result ≡ guard_of self.now event.now }
     {
@@ -136,20 +140,44 @@ impl World {
         let at = worker_of(event) as usize;
         make(&mut self.workers[at], &mut self.fabric, x, event)
     }
+
+    /// Whether the worker's top has an answer to give now.
+    #[inline(always)]
+    pub fn may_advance(&self, w: u32) -> bool
+        ensures { IsTrue result ↔ (guard_of self.now (kind.Advance w) ≡ None) }
+    {
+        may_advance(&self.workers, &self.fabric, w)
+    }
+
+    /// Makes answers of the worker's top in one go, each an event of its own: some of which nothing comes, and one more. It
+    /// tells how many gave nothing. After `NoMemory`, which only a row may meet, nothing is changed.
+    pub fn advance<X: Expand>(&mut self, x: &X, w: u32) -> Result<u64, NoMemory>
+        requires fits { Fits (X.tree x.now) self.old.shared }
+        requires enabled { guard_of self.old (kind.Advance w) ≡ None }
+        ensures made { IfOk result (λ passed. AreMade (X.tree x.now) self.old w passed self.new) }
+        ensures err { OnErr result (self.new ≡ self.old) }
+    {
+        self.workers[w as usize].advance_on(x)
+    }
 }
 
 impl World {
-    /// Hands out the rows of all workers, in the order of the workers, and leaves none. After `NoMemory` all is as before.
-    pub fn take_rows(&mut self, alloc: Global) -> Result<Vec<Context>, NoMemory>
-        ensures rows { IfOk result (λ rows. rows.items ≡ all_rows self.old.workers) }
-        ensures left { OnOk result (self.new ≡ world_of (without_rows self.old.workers) self.old.shared) }
-        ensures err { OnErr result (self.new ≡ self.old) }
+    /// Hands out the rows of a worker, and leaves it none. They are the worker's own list, so no memory is taken.
+    pub fn take_rows(&mut self, w: u32) -> Vec<Context>
+        requires { w < length self.old.workers }
+        ensures rows { result.items ≡ rows_at self.old.workers w }
+        ensures left { self.new ≡ world_of (without_rows_at self.old.workers w) self.old.shared }
     {
-        let Some(count) = row_count(&self.workers) else {
-            return Err(NoMemory);
-        };
-        let room = Vec::with_capacity(alloc, count)?;
-        Ok(gather(&mut self.workers, room, count))
+        self.workers[w as usize].take_rows()
+    }
+
+    /// The rows of all workers, in the order of the workers, in one list. It is the first worker's own, to which those of
+    /// the others are added, so one worker's rows take no memory.
+    pub fn into_rows(self) -> Result<Vec<Context>, NoMemory>
+        ensures { IfOk result (λ rows. rows.items ≡ all_rows self.workers) }
+    {
+        let mut world = self;
+        take_all(&mut world)
     }
 }
 

@@ -1,5 +1,5 @@
 -- A run goes on by one event more.
-use Rattle.std.proofs.Common.{◌≡◌, ℕ, ◌+◌, ◌<◌, ◌≤◌, List, [], ◌∷◌, ◌++◌, length, None, Result, Ok, Err, refl, sym, ap, subst, ◌∙◌, arith}
+use Rattle.std.proofs.Common.{◌≡◌, ℕ, ◌+◌, ◌<◌, ◌≤◌, List, [], ◌∷◌, ◌++◌, length, length-append, None, Result, Ok, Err, refl, sym, ap, subst, ◌∙◌, arith, zero, suc}
 use Rattle.std.specs.Prelude.{IfOk}
 use Rattle.std.proofs.lemmas.List.{length-set}
 use Rattle.std.proofs.lemmas.Option.{slice_get_within}
@@ -13,6 +13,7 @@ use Rattle.world_core.proofs.Leaves.{start-owes}
 use Rattle.match_context.specs.Tree.{Tree}
 use Rattle.match_context.specs.declared.context.Context.{Context}
 use Rattle.dfs_worker.specs.declared.event.Event.{Event}
+use Rattle.world_core.specs.Advances.{AreMade, advances}
 use Rattle.world_core.specs.Owed.{owed}
 use Rattle.world_core.specs.Step.{Step, Run, guard_of, worker_of, own_part, shared_part}
 use Rattle.world_core.specs.Stepped.{IsStepped, stepped_of}
@@ -36,13 +37,13 @@ event-in w e g = let x = enabled-facts w e g in slice_get_within w.workers (work
 -- how far a run has come
 pub record GoesOn (t : Tree) (old now : World) (before after worker : ℕ) : Type 0 where
   pub worker_in : worker ≤ length now.workers
-  pub run : (events : List Event) × Run t old events now
+  pub run : (events : List Event) × (Run t old events now × (after ≡ before + length events))
   pub fits : Fits t now.shared
   pub owes : (row : Context → ℕ) → owed row t old ≡ owed row t now
   pub steps : after + work_left t now ≤ before + work_left t old
 
 pub goes-start : (t : Tree) (w : World) (n : ℕ) → Fits t w.shared → GoesOn t w w n n 0
-goes-start t w n fits = record { worker_in = omega arith; run = ([], refl); fits = fits; owes = λ row. refl; steps = omega arith }
+goes-start t w n fits = record { worker_in = omega arith; run = ([], (refl, omega arith)); fits = fits; owes = λ row. refl; steps = omega arith }
 
 pub goes-more : (t : Tree) (old mid new : World) (before after next worker i : ℕ) (e : Event) → GoesOn t old mid before after worker → Step t mid e new → guard_of mid e ≡ None → i ≡ worker_of e → next ≡ after + 1 →
     Fits t new.shared → ((row : Context → ℕ) → owed row t mid ≡ owed row t new) → work_left t new < work_left t mid → GoesOn t old new before next i
@@ -50,11 +51,44 @@ goes-more t old mid new before after next worker i e goes step g same more fits 
     let size = step-length t mid new e step in
     let here = event-in mid e g in
     let steps = goes.steps in
+    let count = goes.run.1.1 in
+    let longer = length-append goes.run.0 (e ∷ []) in
     record {
       worker_in = omega arith;
-      run = (goes.run.0 ++ e ∷ [], run-more t goes.run.0 e old mid new goes.run.1 step);
+      run = (goes.run.0 ++ e ∷ [], (run-more t goes.run.0 e old mid new goes.run.1.0 step, omega arith));
       fits = fits;
       owes = λ row. goes.owes row ∙ owes row;
+      steps = omega arith;
+    }
+
+-- ---- events that were made in one go
+pub run-append : (t : Tree) (first later : List Event) (old mid new : World) → Run t old first mid → Run t mid later new → Run t old (first ++ later) new
+run-append t [] later old mid new a b = subst (λ w. Run t w later new) a b
+run-append t (e ∷ es) later old mid new a b = (a.0, (a.1.0, run-append t es later a.0 mid new a.1.1 b))
+
+run-length : (t : Tree) (events : List Event) (old new : World) → Run t old events new → length new.workers ≡ length old.workers
+run-length t [] old new run = ap (λ (w : World). length w.workers) run
+run-length t (e ∷ es) old new run = run-length t es run.0 new run.1.1 ∙ step-length t old run.0 e run.1.0
+
+length-advances : (passed w : ℕ) → length (advances passed w) ≡ passed + 1
+length-advances zero w = refl
+length-advances (suc passed) w = let more = length-advances passed w in omega arith
+
+pub goes-far : (t : Tree) (old mid new : World) (before after next worker passed : ℕ) → GoesOn t old mid before after worker → AreMade t mid worker passed new → next ≡ after + passed + 1 →
+    GoesOn t old new before next worker
+goes-far t old mid new before after next worker passed goes made more =
+    let size = run-length t (advances passed worker) mid new made.run in
+    let steps = goes.steps in
+    let less = made.work in
+    let here = goes.worker_in in
+    let count = goes.run.1.1 in
+    let longer = length-append goes.run.0 (advances passed worker) in
+    let many = length-advances passed worker in
+    record {
+      worker_in = omega arith;
+      run = (goes.run.0 ++ advances passed worker, (run-append t goes.run.0 (advances passed worker) old mid new goes.run.1.0 made.run, omega arith));
+      fits = subst (λ s. Fits t s) (sym made.shared) goes.fits;
+      owes = λ row. goes.owes row ∙ made.owes row;
       steps = omega arith;
     }
 

@@ -9,6 +9,7 @@ use dfs_worker::{Event, Hand};
 use world_core::World;
 
 /// The event, where it is enabled.
+#[inline(always)]
 fn if_enabled(world: &World, event: Event) -> Option<Event>
     ensures { MatchOption result (IsOff world.now event) (λ e. (e ≡ event) × (guard_of world.now event ≡ None)) }
 {
@@ -44,6 +45,27 @@ fn own_event(world: &World, w: u32) -> Option<Event>
         return None;
     }
     if_enabled(world, Event::Post { w, stage, to })
+}
+
+/// What the waiting child does first, where that is enabled: its full buffer is posted, or it goes into its buffer; where
+/// none is open for it a credit is taken, or it becomes the top.
+pub fn child_event(world: &World, w: u32) -> Option<Event>
+    requires within { w < length world.now.workers }
+    ensures { IfSome result (IsNext world.now w) }
+{
+    let worker = world.worker(w);
+    let (stage, to) = worker.waiting()?;
+    if worker.has_room(stage, to) {
+        return if_enabled(world, Event::Append { w });
+    }
+    if worker.is_open(stage, to) {
+        return if_enabled(world, Event::Post { w, stage, to });
+    }
+    let event = if_enabled(world, Event::Charge { w });
+    if event.is_some() {
+        return event;
+    }
+    if_enabled(world, Event::Descend { w })
 }
 
 /// The post of the open buffer of a stage for the lowest machine.

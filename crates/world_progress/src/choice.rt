@@ -7,7 +7,7 @@ ghost use Rattle.world_core.specs.Step.{guard_of};
 ghost use Rattle.world_progress.specs.Choice.{IsNext, AllFail, waiting_list, empty_list};
 ghost use Rattle.world_progress.specs.Stuck.{IsIdle};
 
-use crate::attempts::first_of;
+use crate::attempts::{child_event, first_of};
 use bfs_budget::{Attempt, Policy, choice};
 use dfs_worker::{Event, Hand};
 use match_context::Rest;
@@ -50,11 +50,39 @@ fn by_policy<P: Policy>(
 {
     let look = world.worker(w).look(attempts.len() as u32);
     let start = choice(policy, &look) as usize;
+    gone_round(world, w, attempts, start)
+}
+
+/// The enabled event of the first of these attempts that has one, from a place on and then from the first.
+fn gone_round(world: &World, w: u32, attempts: &[Attempt], start: usize) -> Option<Event>
+    requires within { w < length world.now.workers }
+    requires place { start ≤ length attempts.now }
+    ensures some { IfSome result (IsNext world.now w) }
+    ensures none { IfNone result (AllFail world.now w attempts.now) }
+{
     let event = first_of(world, w, &attempts[start..]);
     if event.is_some() {
         return event;
     }
     first_of(world, w, &attempts[..start])
+}
+
+/// The enabled event of a worker whose top waits with a child. Where the policy begins at the first attempt, what the
+/// child itself does next is known without a look at the others.
+fn waiting_event<P: Policy>(world: &World, w: u32, policy: &mut P) -> Option<Event>
+    requires within { w < length world.now.workers }
+    ensures some { IfSome result (IsNext world.now w) }
+    ensures none { IfNone result (AllFail world.now w waiting_list) }
+{
+    let look = world.worker(w).look(8);
+    let start = choice(policy, &look) as usize;
+    if start == 0 {
+        let event = child_event(world, w);
+        if event.is_some() {
+            return event;
+        }
+    }
+    gone_round(world, w, &WAITING, start)
 }
 
 fn is_free(hand: &Hand) -> bool
@@ -91,7 +119,7 @@ pub fn worker_event<P: Policy>(world: &World, w: u32, policy: &mut P) -> Option<
         return Some(Event::Restore { w });
     }
     if top.wait.is_some() {
-        return by_policy(world, w, policy, &WAITING);
+        return waiting_event(world, w, policy);
     }
     Some(Event::Advance { w })
 }

@@ -1,5 +1,5 @@
 //! Runs to their end.
-ghost use Rattle.std.specs.Prelude.{◌≡◌, ℕ, ◌+◌, ◌<◌, ◌≤◌, List, None, IfOk, IfSome, IfNone, OnOk};
+ghost use Rattle.std.specs.Prelude.{◌≡◌, ℕ, ◌+◌, ◌<◌, ◌≤◌, List, None, IfOk, IfSome, IfNone, OnOk, length};
 ghost use Rattle.dfs_worker.specs.declared.event.Event.{Event};
 ghost use Rattle.match_context.specs.Bags.{SameBag};
 ghost use Rattle.match_context.specs.Leaves.{tree_leaves};
@@ -44,9 +44,10 @@ pub fn some_event<X: Expand>(world: &World, x: &X) -> Option<Event>
 }
 
 /// Makes events until all stages are closed, and counts them. A worker goes on as long as it can, at each event as the
-/// policy chooses; then it is the next one's turn.
+/// policy chooses; then it is the next one's turn. Where its top has answers to give, nothing is chosen, and those of
+/// which nothing comes are made in one go.
 ///
-/// The steps are at most the work that was left. After `NoMemory` the world is one that a run reaches, too.
+/// The steps are as many as the events, and at most the work that was left. After `NoMemory` the world is one that a run reaches, too.
 pub fn run_to_end<X: Expand, P: Policy, L: Ledger>(
     world: &mut World,
     x: &X,
@@ -56,13 +57,19 @@ pub fn run_to_end<X: Expand, P: Policy, L: Ledger>(
     requires { Fits (X.tree x.now) world.old.shared }
     ensures finished { OnOk result (IsFinished world.new) }
     ensures sound { OnOk result (Sound world.new) }
-    ensures run { (events : List Event) × Run (X.tree x.now) world.old events world.new }
+    ensures run { (events : List Event) × (Run (X.tree x.now) world.old events world.new × (steps.new ≡ steps.old + length events)) }
     ensures fits { Fits (X.tree x.now) world.new.shared }
     ensures owed { (row : _) → owed row (X.tree x.now) world.old ≡ owed row (X.tree x.now) world.new }
     ensures steps { steps.new + work_left (X.tree x.now) world.new ≤ steps.old + work_left (X.tree x.now) world.old }
 {
     let mut w = 0;
     'events: loop {
+        if world.may_advance(w) {
+            let passed = world.advance(x, w)?;
+            steps.add(passed);
+            steps.tick();
+            continue 'events;
+        }
         let Some(event) = next_event(world, policy, w) else {
             return Ok(());
         };
@@ -104,5 +111,5 @@ fn counted_rows<X: Expand, P: Policy, L: Ledger>(
     let mut world = World::new(alloc, x, shape)?;
     let mut steps = Steps::<L>::new(blank);
     run_to_end(&mut world, x, policy, &mut steps)?;
-    world.take_rows(alloc)
+    world.into_rows()
 }

@@ -4,7 +4,7 @@ ghost use Rattle.std.specs.Prelude.{◌≡◌, ◌+◌, ◌<◌};
 use std::marker::Model;
 use std::sync::ledger::{Blank, Book, Ledger, Share};
 
-/// How many events were made. It takes no bytes, and only `tick` changes it. A contract sees it as a number.
+/// How many events were made. It takes no bytes, and only `add` and `tick` change it. A contract sees it as a number.
 #[derive(Drop)]
 pub struct Steps<L: Ledger> {
     book: Book<L>,
@@ -31,6 +31,13 @@ impl<L: Ledger> Steps<L> {
     {
         let (book, share) = blank.open();
         Steps { book, share }
+    }
+
+    /// So many events more.
+    pub fn add(&mut self, count: u64)
+        ensures { self.new ≡ self.old + count }
+    {
+        self.book.add(&mut self.share, count);
     }
 
     /// One event more.

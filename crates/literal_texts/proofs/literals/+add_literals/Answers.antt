@@ -11,7 +11,7 @@ use Rattle.pgql_tree.specs.declared.ast.AstExpr.TheVariants as ast
 use Rattle.pgql_tree.specs.declared.ast.AstExpr.TheViews.{sized-Binary, sized-IsNull, sized-Neg, sized-Not}
 use Rattle.pgql_tree.specs.declared.ast.Op.{Op}
 
-length-Binary : (whole : AstExpr) (op : Op) (left right : AstExpr) (at : ℕ) → whole ≡ ast.Binary op left right at → length (literals whole) ≡ length (literals left) + length (literals right)
+length-Binary : (whole : AstExpr) (op : Op) (left right : AstExpr) (at : ℕ) → whole ≡ ast.Binary op at left right → length (literals whole) ≡ length (literals left) + length (literals right)
 length-Binary whole op left right at is = ap length (literals-Binary whole op left right at is) ∙ length-append (literals left) (literals right)
 
 pub returns-in-Int-clause-ok : goal.returns-in-Int-clause-ok

@@ -39,25 +39,25 @@ is_null_test-returns-in_default t c =
 
 pub is_binary-returns-then-not-same_op : goal.is_binary-returns-then-not-same_op
 is_binary-returns-then-not-same_op t c =
-    let both = same-Binary c.args.x.now (e.Binary c.args.op c.args.left.now c.args.right.now 0) c.in-Binary.other_op c.in-Binary.other_left c.in-Binary.other_right c.args.op c.args.left.now c.args.right.now c.in-Binary.at 0 c.in-Binary.is refl in
+    let both = same-Binary c.args.x.now (e.Binary c.args.op 0 c.args.left.now c.args.right.now) c.in-Binary.other_op c.in-Binary.other_left c.in-Binary.other_right c.args.op c.args.left.now c.args.right.now c.in-Binary.at 0 c.in-Binary.is refl in
     ((λ h. absurd cc), (λ s. let holds : c.same_op.result ≡ true = c.same_op.ensures.1 (both.1 s).0 in let fails : c.same_op.result ≡ false = c.if-not-same_op.true in cc))
 
 pub is_binary-returns-then-not-same_expr : goal.is_binary-returns-then-not-same_expr
 is_binary-returns-then-not-same_expr t c =
-    let both = same-Binary c.args.x.now (e.Binary c.args.op c.args.left.now c.args.right.now 0) c.in-Binary.other_op c.in-Binary.other_left c.in-Binary.other_right c.args.op c.args.left.now c.args.right.now c.in-Binary.at 0 c.in-Binary.is refl in
+    let both = same-Binary c.args.x.now (e.Binary c.args.op 0 c.args.left.now c.args.right.now) c.in-Binary.other_op c.in-Binary.other_left c.in-Binary.other_right c.args.op c.args.left.now c.args.right.now c.in-Binary.at 0 c.in-Binary.is refl in
     let deep = rw c.get.ensures at c.same_expr.ensures in
     ((λ h. absurd cc), (λ s. let holds : c.same_expr.result ≡ true = deep.1 (both.1 s).1 in let fails : c.same_expr.result ≡ false = c.if-not-same_expr.true in cc))
 
 pub is_binary-returns-else-not-same_expr : goal.is_binary-returns-else-not-same_expr
 is_binary-returns-else-not-same_expr t c =
-    let both = same-Binary c.args.x.now (e.Binary c.args.op c.args.left.now c.args.right.now 0) c.in-Binary.other_op c.in-Binary.other_left c.in-Binary.other_right c.args.op c.args.left.now c.args.right.now c.in-Binary.at 0 c.in-Binary.is refl in
+    let both = same-Binary c.args.x.now (e.Binary c.args.op 0 c.args.left.now c.args.right.now) c.in-Binary.other_op c.in-Binary.other_left c.in-Binary.other_right c.args.op c.args.left.now c.args.right.now c.in-Binary.at 0 c.in-Binary.is refl in
     let deep = rw c.get.ensures at c.same_expr.ensures in
     let deep2 = rw c.get-in-Binary.ensures at c.same_expr-in-Binary.ensures in
     ((λ h. both.0 (c.same_op.ensures.0 c.if-not-same_op.false) (deep.0 c.if-not-same_expr.false) (deep2.0 h)), (λ s. deep2.1 (both.1 s).2))
 
 pub is_binary-returns-in_default : goal.is_binary-returns-in_default
 is_binary-returns-in_default t c =
-    ((λ h. absurd cc), (λ s. absurd (other-Binary (e.Binary c.args.op c.args.left.now c.args.right.now 0) c.args.x.now c.args.op c.args.left.now c.args.right.now 0 refl c.in_default.not-Binary (sym s))))
+    ((λ h. absurd cc), (λ s. absurd (other-Binary (e.Binary c.args.op 0 c.args.left.now c.args.right.now) c.args.x.now c.args.op c.args.left.now c.args.right.now 0 refl (λ o l r at is. c.in_default.not-Binary o at l r is) (sym s))))
 
 pub same_expr-returns-in-Int : goal.same_expr-returns-in-Int
 same_expr-returns-in-Int t c = told_so c.args.a.now (e.Int c.in-Int.number 0) c.args.b.now (bare-Int c.in-Int.number 0 ∙ sym (ap bare c.in-Int.is ∙ bare-Int c.in-Int.number c.in-Int.at)) c.is_int.ensures
@@ -72,10 +72,10 @@ pub same_expr-returns-in-Bool : goal.same_expr-returns-in-Bool
 same_expr-returns-in-Bool t c = told_so c.args.a.now (e.Bool c.in-Bool.truth 0) c.args.b.now (bare-Bool c.in-Bool.truth 0 ∙ sym (ap bare c.in-Bool.is ∙ bare-Bool c.in-Bool.truth c.in-Bool.at)) c.is_bool.ensures
 
 pub same_expr-returns-in-Name : goal.same_expr-returns-in-Name
-same_expr-returns-in-Name t c = told_so c.args.a.now (e.Name c.in-Name.name 0) c.args.b.now (bare-Name c.in-Name.name 0 ∙ sym (ap bare c.in-Name.is ∙ bare-Name c.in-Name.name c.in-Name.at)) c.is_name.ensures
+same_expr-returns-in-Name t c = told_so c.args.a.now (e.Name 0 c.in-Name.name) c.args.b.now (bare-Name c.in-Name.name 0 ∙ sym (ap bare c.in-Name.is ∙ bare-Name c.in-Name.name c.in-Name.at)) c.is_name.ensures
 
 pub same_expr-returns-in-Property : goal.same_expr-returns-in-Property
-same_expr-returns-in-Property t c = told_so c.args.a.now (e.Property c.in-Property.variable c.in-Property.property 0) c.args.b.now (bare-Property c.in-Property.variable c.in-Property.property 0 ∙ sym (ap bare c.in-Property.is ∙ bare-Property c.in-Property.variable c.in-Property.property c.in-Property.at)) c.is_property.ensures
+same_expr-returns-in-Property t c = told_so c.args.a.now (e.Property 0 c.in-Property.variable c.in-Property.property) c.args.b.now (bare-Property c.in-Property.variable c.in-Property.property 0 ∙ sym (ap bare c.in-Property.is ∙ bare-Property c.in-Property.variable c.in-Property.property c.in-Property.at)) c.is_property.ensures
 
 pub same_expr-returns-in-Id : goal.same_expr-returns-in-Id
 same_expr-returns-in-Id t c = told_so c.args.a.now (e.Id c.in-Id.variable 0) c.args.b.now (bare-Id c.in-Id.variable 0 ∙ sym (ap bare c.in-Id.is ∙ bare-Id c.in-Id.variable c.in-Id.at)) c.is_id.ensures
@@ -93,4 +93,4 @@ pub same_expr-returns-in-IsNull : goal.same_expr-returns-in-IsNull
 same_expr-returns-in-IsNull t c = told_so c.args.a.now (e.IsNull c.in-IsNull.inside c.in-IsNull.negated 0) c.args.b.now (bare-IsNull c.in-IsNull.inside c.in-IsNull.negated 0 ∙ sym (ap bare c.in-IsNull.is ∙ bare-IsNull c.in-IsNull.inside c.in-IsNull.negated c.in-IsNull.at)) (rw c.get-in-IsNull.ensures at c.is_null_test.ensures)
 
 pub same_expr-returns-in-Binary : goal.same_expr-returns-in-Binary
-same_expr-returns-in-Binary t c = told_so c.args.a.now (e.Binary c.in-Binary.op c.in-Binary.left c.in-Binary.right 0) c.args.b.now (bare-Binary c.in-Binary.op c.in-Binary.left c.in-Binary.right 0 ∙ sym (ap bare c.in-Binary.is ∙ bare-Binary c.in-Binary.op c.in-Binary.left c.in-Binary.right c.in-Binary.at)) (rw (c.get-in-Binary.ensures, c.get-in-Binary-2.ensures) at c.is_binary.ensures)
+same_expr-returns-in-Binary t c = told_so c.args.a.now (e.Binary c.in-Binary.op 0 c.in-Binary.left c.in-Binary.right) c.args.b.now (bare-Binary c.in-Binary.op c.in-Binary.left c.in-Binary.right 0 ∙ sym (ap bare c.in-Binary.is ∙ bare-Binary c.in-Binary.op c.in-Binary.left c.in-Binary.right c.in-Binary.at)) (rw (c.get-in-Binary.ensures, c.get-in-Binary-2.ensures) at c.is_binary.ensures)

@@ -1,13 +1,27 @@
+use Rattle.std.proofs.Common.{◌∙◌}
 use Rattle.query_replies.specs.Asked.{answering}
-use Rattle.query_replies.proofs.Steps.{both_ok, of_text}
+use Rattle.query_replies.specs.Verdicts.{IsAccepted}
+use Rattle.query_replies.proofs.Growing.{meant_after}
+use Rattle.query_replies.proofs.VerdictFacts.{answers_it}
 use Rattle.query_replies.proofs.answers.reply_to_text.Goals as goal
 
-pub returns-in_ok-refusal_of_syntax-in-Err-clause-reply : goal.returns-in_ok-refusal_of_syntax-in-Err-clause-reply
-returns-in_ok-refusal_of_syntax-in-Err-clause-reply c =
-    both_ok _ _ _
-    (λ reply is_text is_refused. of_text (answering c.args.asked) c.args.schema.now c.args.number c.args.base c.args.text.now c.args.texts.now c.in-Err.fault c.in_ok-refusal_of_syntax-in-Err.field-0 reply.text.items reply.refused
-    (c.in-Err.ensures.fault c.in_ok-refusal_of_syntax-in-Err.ensures.memory) c.in_ok-refusal_of_syntax-in-Err.ensures.ok is_text is_refused)
-    c.refused.result c.refused.ensures.text c.refused.ensures.refused
+pub asked_text-requires-clause-may : goal.asked_text-requires-clause-may
+asked_text-requires-clause-may c =
+    let some = c.requires.meant in
+    let accepted : IsAccepted c.args.schema.now c.args.base c.args.text.now c.args.texts.now c.read_query.new.texts c.in-Accepted.query c.in-Accepted.plan
+    = rw c.in-Accepted.is at c.in_ok-query.ensures.verdict in
+    record {
+      schema = c.args.schema.now;
+      graph = some.graph;
+      meant = meant_after c.args.texts.now c.read_query.new.texts c.args.schema.now some.graph c.args.asked.now c.in_ok-query.ensures.kept some.meant;
+      kinds = accepted.kinds;
+    }
 
-pub reply_to_tree-requires-clause-paths : goal.reply_to_tree-requires-clause-paths
-reply_to_tree-requires-clause-paths c = c.trees_have_paths.ensures 64 c.args.base c.args.text.now c.in-Ok.ast c.in-Ok.ensures.found
+pub returns-in_ok-text-in-Accepted-clause-reply : goal.returns-in_ok-text-in-Accepted-clause-reply
+returns-in_ok-text-in-Accepted-clause-reply c = λ graph meant.
+    let accepted : IsAccepted c.args.schema.now c.args.base c.args.text.now c.args.texts.now c.read_query.new.texts c.in-Accepted.query c.in-Accepted.plan
+    = rw c.in-Accepted.is at c.in_ok-query.ensures.verdict in
+    let later = meant_after c.args.texts.now c.read_query.new.texts c.args.schema.now graph c.args.asked.now c.in_ok-query.ensures.kept meant in
+    answers_it (answering graph c.args.asked.now) c.args.schema.now c.args.number c.args.base c.args.text.now c.args.texts.now c.read_query.new.texts c.in-Accepted.query c.in-Accepted.plan
+    c.answered.result.text.items c.answered.result.refused accepted
+    (c.answered.ensures.text ∙ c.in_ok-text-in-Accepted.ensures.text c.args.schema.now graph later accepted.kinds) c.answered.ensures.refused

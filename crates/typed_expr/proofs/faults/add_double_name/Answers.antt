@@ -1,18 +1,9 @@
-use Rattle.std.proofs.Common.{◌∙◌, ◌++◌, sym, ap}
-use Rattle.std.proofs.lemmas.List.{append-nil}
-use Rattle.pattern_scope.specs.Names.{variable_of}
+use Rattle.std.proofs.Common.{◌≡◌, ◌∙◌, ◌++◌, OnOk, Some, sym, ap, subst}
 use Rattle.typed_expr.specs.Typed.{double_name}
-use Rattle.typed_expr.proofs.Columns.{double-told, single-told}
 use Rattle.typed_expr.proofs.faults.add_double_name.Goals as goal
 
-pub returns-in_ok-push : goal.returns-in_ok-push
-returns-in_ok-push c = λ items is.
-    let placed = c.in-Some.placed in
-    let told = double-told items placed c.variable_of.result (c.variable_of.ensures ∙ ap (λ vs. variable_of vs placed.name) is) (sym c.is_some.ensures ∙ c.if-is_some.true) in
-    c.in_ok-push.ensures.ok ∙ ap (λ faults. c.args.faults.now ++ faults) (sym (ap (double_name items) c.in-Some.is ∙ told))
-
-pub returns-else-is_some : goal.returns-else-is_some
-returns-else-is_some c = λ items is.
-    let placed = c.in-Some.placed in
-    let told = single-told items placed c.variable_of.result (c.variable_of.ensures ∙ ap (λ vs. variable_of vs placed.name) is) (sym c.is_some.ensures ∙ c.if-is_some.false) in
-    sym (ap (λ faults. c.args.faults.now ++ faults) (ap (double_name items) c.in-Some.is ∙ told) ∙ append-nil c.args.faults.now)
+pub returns-in-Some : goal.returns-in-Some
+returns-in-Some c = λ items is.
+    subst (λ name. OnOk c.add_if_double.result (c.add_if_double.new.faults ≡ c.args.faults.now ++ double_name items name))
+    (ap (λ placed. Some placed) c.get.ensures ∙ sym c.in-Some.is)
+    (c.add_if_double.ensures items is)

@@ -44,13 +44,13 @@ pub returns-in-Id : goal.returns-in-Id
 unfolding checked
 returns-in-Id t c =
     let means = fold-Id Checked (checked_of c.args.schema.now c.args.variables.now) c.args.expr.now c.in-Id.variable c.in-Id.at c.in-Id.is in
-    rw (c.found-in-Id.ensures, c.used_as-kind.ensures) (sym means)
+    rw (c.found-in-Id.ensures, c.called_as-kind.ensures) (sym means)
 
 pub returns-in-Label : goal.returns-in-Label
 unfolding checked
 returns-in-Label t c =
     let means = fold-Label Checked (checked_of c.args.schema.now c.args.variables.now) c.args.expr.now c.in-Label.variable c.in-Label.at c.in-Label.is in
-    rw (c.found-in-Label.ensures, c.used_as-kind-in-Label.ensures) (sym means)
+    rw (c.found-in-Label.ensures, c.called_as-kind-in-Label.ensures) (sym means)
 
 pub returns-in-Not : goal.returns-in-Not
 unfolding checked

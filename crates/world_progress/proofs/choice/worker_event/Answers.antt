@@ -24,7 +24,7 @@ returns-in_default-clause-none g c =
 pub returns-then-is_some-clause-none : goal.returns-then-is_some-clause-none
 returns-then-is_some-clause-none g c =
     let child = some-of c.in-Some.top.now.wait (sym c.is_some.ensures ∙ c.if-is_some.true) in
-    if-none _ _ c.by_policy-then-is_some.result c.by_policy-then-is_some.ensures.none
+    if-none _ _ c.waiting_event.result c.waiting_event.ensures.none
     (idle-waits c.args.world.now c.args.w c.worker-worker.result.now c.in-Some.top.now c.in-Some.ensures.0 child.0 c.worker-worker.ensures.at
     (free-hand c.worker-worker.result.now.hand (ap is_free (sym c.hand.ensures) ∙ sym c.is_free.ensures ∙ c.if-not-is_free.false))
     c.in-Some.ensures.1 child.1 (sym c.is_over.ensures ∙ c.if-is_over.false))

@@ -1,8 +1,0 @@
-use Rattle.world_progress.specs.Choice.{AllFail}
-use Rattle.world_progress.proofs.Tries.{none-of, if-none, parts-fail}
-use Rattle.world_progress.proofs.choice.by_policy.Goals as goal
-
-pub returns-clause-none : goal.returns-clause-none
-returns-clause-none g c =
-    if-none _ _ c.first_of.result c.first_of.ensures.none (parts-fail c.args.world.now c.args.w c.choice-start.result c.args.attempts.now
-    (none-of _ c.first_of-event.result c.is_some.result c.is_some.ensures c.if-is_some.false c.first_of-event.ensures.none))
