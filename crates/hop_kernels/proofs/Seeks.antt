@@ -10,14 +10,14 @@ use Rattle.match_context.specs.declared.context.Context.{Context}
 use Rattle.match_context.specs.declared.expand.Found.{Found}
 use Rattle.match_context.specs.declared.expand.Found.TheVariants as found
 use Rattle.match_context.specs.declared.expand.Next.{Next}
-use Rattle.match_context.specs.declared.expand.Next.TheVariants.{Child, Row, Skip, End}
+use Rattle.match_context.specs.declared.expand.Next.TheVariants.{Child, Skip, End}
 use Rattle.match_context.specs.declared.frame.Frame.{Frame}
 use Rattle.partition.specs.Parts.{Entry, MachinePart, link_of_entry, entry_at, lists_of}
 use Rattle.partition.specs.declared.link.Link.{Link}
 use Rattle.pgql_meaning.specs.Fits.{has_labels, is_in_lists}
 use Rattle.typed_expr.specs.declared.query.Query.{Query}
 use Rattle.value_text.specs.Texts.{text_at}
-use Rattle.stage_plan.specs.Walk.{captures_of, edge_of}
+use Rattle.stage_plan.specs.Walk.{captures_of}
 use Rattle.stage_plan.specs.declared.hop.Hop.TheVariants as hop
 use Rattle.stage_plan.specs.declared.stage.Gains.{Gains}
 use Rattle.stage_plan.specs.declared.stage.Stage.{Stage}
@@ -26,7 +26,6 @@ use Rattle.plan_tree.specs.PlanTree.{PlanOverParts, taken, tree_of}
 use Rattle.plan_tree.specs.Told.{all_told, written}
 use Rattle.hop_kernels.specs.Entries.{after_answer, answer_along}
 use Rattle.hop_kernels.specs.Fitting.{GainsFit, HasRoom, IsThere}
-use Rattle.hop_kernels.specs.Looks.{one_answer}
 use Rattle.hop_kernels.specs.Seeks.{GoesAlong, IsFirstSought, IsSought, answer_by, child_words, ends_at, is_end, kept_context, leads}
 use Rattle.hop_kernels.specs.Spots.{entry_in, no_entry}
 use Rattle.hop_kernels.proofs.EntryLists.{answer_at, bound-ahead, bound-at, entries-found, entry-is, if_any-answer, neighbour-ahead}

@@ -1,4 +1,4 @@
-use Rattle.std.proofs.Common.{◌<◌, arith, inl, inr}
+use Rattle.std.proofs.Common.{arith, inl, inr}
 use Rattle.std.proofs.lemmas.Bool.{cases_lt}
 use Rattle.partition.specs.declared.link.Link.{Link}
 use Rattle.hop_kernels.proofs.Seeks.{by_halves}

@@ -1,8 +1,8 @@
-use Rattle.std.proofs.Common.{◌≡◌, true, false, ap, refl, sym, ◌∙◌}
+use Rattle.std.proofs.Common.{true, false, ap, refl, sym, ◌∙◌}
 use Rattle.element_store.specs.Elements.{Element}
-use Rattle.partition.specs.Parts.{link_of_entry, entry_at}
+use Rattle.partition.specs.Parts.{entry_at}
 use Rattle.stage_plan.specs.Walk.{captures_of}
-use Rattle.plan_tree.specs.Answers.{all_hold, edge_in}
+use Rattle.plan_tree.specs.Answers.{all_hold}
 use Rattle.plan_tree.specs.Told.{written}
 use Rattle.hop_kernels.specs.Spots.{entry_in}
 use Rattle.hop_kernels.proofs.EntryLists.{edge-is, entry-is}
