@@ -7,4 +7,5 @@ pub mod Looks
 pub mod Over
 pub mod PlanTrees
 pub mod Props
+pub mod Seeks
 pub mod Spots

@@ -1,6 +1,7 @@
 -- Facts of plans and trees that have one proof at most.
 use Rattle.std.specs.Prelude.{◌≡◌, ℕ, List, [], ◌∷◌, ◌⊎◌, Option, Some, None}
 use Rattle.std.specs.List.{AllByRecursion, AllByRecursion-prop}
+use Rattle.std.specs.List.Sorted.{IsNonDecreasingBy}
 use Rattle.std.proofs.Common.{refl, sym, ap, ◌∙◌, inl, inr}
 use Rattle.std.proofs.Props.{props}
 use Rattle.std.specs.Coded.{×_prop}
@@ -8,17 +9,24 @@ use mathlib.Core.HLevel.{Unit-prop, collapsible→set, prop→set}
 use mathlib.Core.Sum.{⊎_set}
 use Rattle.match_context.specs.Tree.{AreItems, Below, IsItem, IsTree, Item, Leaf, Pass, Tree}
 use Rattle.match_context.specs.declared.context.Context.{Context}
-use Rattle.partition.specs.Parts.{MachinePart}
+use Rattle.partition.specs.Parts.{Entry, MachinePart}
 use Rattle.typed_expr.specs.declared.query.Query.{Query}
 use Rattle.stage_plan.specs.declared.hop.Hop.{Hop}
 use Rattle.stage_plan.specs.declared.hop.Hop.TheVariants as hop
 use Rattle.stage_plan.specs.declared.stage.Gains.{Gains}
 use Rattle.stage_plan.specs.declared.stage.Stage.{Stage}
 use Rattle.hop_kernels.specs.Fitting.{GainsFit, HopFits, IsThere, ReadsFit, StageFits}
-use Rattle.hop_kernels.specs.Spots.{AreNumbered}
+use Rattle.hop_kernels.specs.Spots.{AreNumbered, AreRising}
 
 pub AreNumbered-prop : (parts : List MachinePart) → IsProp (AllByRecursion AreNumbered parts)
 AreNumbered-prop parts = AllByRecursion-prop AreNumbered (λ part. hlevel props) parts
+
+rising-prop : (entries : List Entry) → IsProp (IsNonDecreasingBy (λ (e : Entry). e.other) entries)
+rising-prop entries = hlevel props
+
+pub AreRising-prop : (parts : List MachinePart) → IsProp (AllByRecursion AreRising parts)
+AreRising-prop parts =
+    AllByRecursion-prop AreRising (λ part. ×_prop (AllByRecursion-prop _ rising-prop part.outgoing) (AllByRecursion-prop _ rising-prop part.incoming)) parts
 
 ReadsFit-prop : (query : Query) (gains : Gains) → IsProp (ReadsFit query gains)
 ReadsFit-prop query gains = hlevel props

@@ -1,5 +1,7 @@
 -- Where elements stand in a part.
 use Rattle.std.specs.Prelude.{◌≡◌, ℕ, pos, Bool, [], length, slice_get, Option, unwrap_or}
+use Rattle.std.specs.List.{AllByRecursion}
+use Rattle.std.specs.List.Sorted.{IsNonDecreasingBy}
 use Rattle.std.specs.Option.{option_map}
 use Rattle.element_store.specs.Elements.{Element}
 use Rattle.partition.specs.Parts.{Entry, MachinePart, entry_at}
@@ -30,3 +32,9 @@ entry_in out part place number = unwrap_or (entry_at out part place number) no_e
 -- Each vertex of the part has its number.
 abbrev pub AreNumbered : MachinePart → Type 0
 AreNumbered part = length part.numbers ≡ length part.vertices
+
+-- The entries of each of its lists stand in the order of their other ends.
+abbrev pub AreRising : MachinePart → Type 0
+AreRising part =
+    AllByRecursion (IsNonDecreasingBy (λ (e : Entry). e.other)) part.outgoing
+    × AllByRecursion (IsNonDecreasingBy (λ (e : Entry). e.other)) part.incoming

@@ -36,7 +36,7 @@ pub(crate) struct Step {
 }
 
 impl Step {
-    fn spot(self) -> Spot
+    pub(crate) fn spot(self) -> Spot
         ensures { result ≡ spot.Edge self.place self.out self.number }
     {
         Spot::Edge {
@@ -76,8 +76,8 @@ fn is_of(query: &Query, variable: u32, place: u32) -> bool
     query.captures.as_slice()[place as usize].variable == variable
 }
 
-// Whether the words that a passage reads of the context, and not of its edge, stand for values.
-fn others_told(ground: &Ground<'_>, gains: &Gains, edge: u32, context: &Context) -> bool
+/// Whether the words that a passage reads of the context, and not of its edge, stand for values.
+pub(crate) fn others_told(ground: &Ground<'_>, gains: &Gains, edge: u32, context: &Context) -> bool
     requires room { HasRoom ground.now.query.now }
     requires fits { GainsFit ground.now.query.now (Some edge) gains.now }
     ensures { result ≡ told.all_told ground.now.texts.now ground.now.query.now context.now.words (answers.others ground.now.query.now edge gains.now.reads) }
@@ -90,8 +90,8 @@ fn others_told(ground: &Ground<'_>, gains: &Gains, edge: u32, context: &Context)
     true
 }
 
-// The numbers of an entry's edge and of its other end, where that is new, among the words.
-fn bind(words: &mut [u64; CONTEXT_WORDS as usize], step: Step, entry: Link)
+/// Puts the numbers of an entry's edge and of its other end, where that is new, among the words.
+pub(crate) fn bind(words: &mut [u64; CONTEXT_WORDS as usize], step: Step, entry: Link)
     requires edge_there { 1 + step.edge < CONTEXT_WORDS }
     requires end_there { IsBelow 39 step.to }
     ensures { words.new ≡ with_end step.to entry.other (told.with_number step.edge entry.edge words.old) }

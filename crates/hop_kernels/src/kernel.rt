@@ -4,6 +4,7 @@ ghost use Rattle.adfs_base.specs.declared.limits.TheConstants.{CONTEXT_WORDS};
 ghost use Rattle.match_context.specs.Tree.{answer};
 ghost use Rattle.typed_expr.specs.WellFormed.{IsWellFormed};
 ghost use Rattle.stage_plan.specs.Plans.{plan_of, words_of};
+ghost use Rattle.stage_plan.specs.declared.hop.Hop.TheVariants as hop;
 ghost use Rattle.plan_tree.specs.Answers as answers;
 ghost use Rattle.hop_kernels.specs.Entries.{IsLow, after_answer};
 ghost use Rattle.hop_kernels.specs.Frames.{ahead_of, frame_after};
@@ -16,9 +17,25 @@ use crate::hops::hop_answer;
 use crate::labels::text_tests;
 use match_context::{Context, Frame, Next};
 use partition::Part;
-use stage_plan::{Plan, Stage};
+use stage_plan::{Hop, Plan, Stage};
 use typed_expr::Query;
 use value_text::Texts;
+
+// The row of a context at the last stage, if it arrives there.
+fn row(ground: &Ground<'_>, stage: &Stage, context: &mut Context) -> Next
+    requires room { HasRoom ground.now.query.now }
+    requires fits { StageFits ground.now.query.now stage.now }
+    requires numbered { AreNumbered ground.now.part.now }
+    requires last { stage.now.hop ≡ hop.Output }
+    ensures answer { result ≡ answer (answers.ahead ground.now.texts.now ground.now.query.now ground.now.part.now stage.now context.old.words 0) }
+    ensures words { context.new.words ≡ answers.words_after ground.now.texts.now ground.now.query.now ground.now.part.now stage.now context.old.words 0 }
+{
+    if arrive(ground, stage, context) {
+        Next::Row(*context)
+    } else {
+        Next::End
+    }
+}
 
 // The first answer of a context: it arrives, and keeps what is written then where an answer follows.
 fn first(ground: &Ground<'_>, stage: &Stage, context: &mut Context) -> Next
@@ -28,6 +45,10 @@ fn first(ground: &Ground<'_>, stage: &Stage, context: &mut Context) -> Next
     ensures answer { result ≡ answer (answers.ahead ground.now.texts.now ground.now.query.now ground.now.part.now stage.now context.old.words 0) }
     ensures words { context.new.words ≡ answers.words_after ground.now.texts.now ground.now.query.now ground.now.part.now stage.now context.old.words 0 }
 {
+    // A row follows each arrival at the last stage, so nothing has to be kept for it.
+    if let Hop::Output = stage.hop {
+        return row(ground, stage, context);
+    }
     let before = *context;
     if !arrive(ground, stage, context) {
         return Next::End;

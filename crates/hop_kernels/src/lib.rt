@@ -18,6 +18,7 @@ mod kernel;
 mod labels;
 pub mod laws;
 mod look;
+mod seek;
 mod spot;
 mod tree;
 mod words;

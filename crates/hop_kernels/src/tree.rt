@@ -11,14 +11,15 @@ ghost use Rattle.hop_kernels.specs.Fitting.{HasRoom, StageFits};
 ghost use Rattle.std.proofs.Props.{props};
 ghost use Rattle.hop_kernels.specs.LabelTests.{AreTests};
 ghost use Rattle.hop_kernels.specs.Over.{AreParts, tree_over};
-ghost use Rattle.hop_kernels.specs.Props.{AreNumbered-prop, IsTree-prop, StagesFit-prop};
-ghost use Rattle.hop_kernels.specs.Spots.{AreNumbered};
+ghost use Rattle.hop_kernels.specs.Props.{AreNumbered-prop, AreRising-prop, IsTree-prop, StagesFit-prop};
+ghost use Rattle.hop_kernels.specs.Spots.{AreNumbered, AreRising};
 
 use crate::ground::Ground;
 use crate::kernel::next;
 use crate::labels::{LabelTest, MOST_VARIABLES, label_tests};
+use crate::seek::seek;
 use adfs_base::CONTEXT_WORDS;
-use match_context::{Context, Expand, Frame, Next};
+use match_context::{Context, Expand, Found, Frame, Next};
 use partition::Part;
 use stage_plan::Plan;
 use typed_expr::Query;
@@ -26,7 +27,7 @@ use value_text::Texts;
 
 /// A query's plan over the parts of a graph.
 ///
-/// What its fields keep: the parts number their vertices, each stage names what the query has, a context has room for
+/// What its fields keep: the parts number their vertices and have their lists in order, each stage names what the query has, a context has room for
 /// the query's matches, and children and rows come where a staged tree has them.
 #[derive(Drop)]
 pub struct PlanTree<'a> {
@@ -38,6 +39,7 @@ pub struct PlanTree<'a> {
     ghost tests_are: { AreTests texts.now query tests } by { Prim.hlevel props },
     ghost few: { length parts.items < 2 ^ 32 },
     ghost numbered: { AllByRecursion AreNumbered parts.items } by { AreNumbered-prop parts.items },
+    ghost rising: { AllByRecursion AreRising parts.items } by { AreRising-prop parts.items },
     ghost room: { HasRoom query },
     ghost fits: { AllByRecursion (StageFits query) plan.stages } by { StagesFit-prop query plan.stages },
     ghost a_tree: { IsTree (tree_over texts.now query plan parts.items) } by { IsTree-prop (tree_over texts.now query plan parts.items) },
@@ -138,6 +140,17 @@ impl Expand for PlanTree<'_> {
         };
         let stage = &self.plan.list()[frame.stage as usize];
         next(&ground, stage, &mut frame.context, &mut frame.place)
+    }
+
+    fn seek(&self, machine: u32, frame: &mut Frame) -> (u64, Found) {
+        let ground = Ground {
+            texts: self.texts,
+            query: &self.query,
+            part: &self.parts[machine as usize],
+            tests: &self.tests,
+        };
+        let stage = &self.plan.list()[frame.stage as usize];
+        seek(&ground, stage, frame)
     }
 
     ghost lawful = { λ x. x.a_tree };

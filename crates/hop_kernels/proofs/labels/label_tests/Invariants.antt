@@ -1,5 +1,3 @@
-use Rattle.std.proofs.Common.{◌≡◌, ℕ, ◌<◌, length, slice_index_or}
-use Rattle.plan_tree.specs.Answers.{labels_of}
 use Rattle.hop_kernels.specs.LabelTests.{AreTests}
 use Rattle.hop_kernels.proofs.labels.label_tests.Given as goal
 

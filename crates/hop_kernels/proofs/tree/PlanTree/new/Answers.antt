@@ -5,6 +5,7 @@ use Rattle.stage_plan.specs.Plans.{plan_of}
 use Rattle.plan_tree.specs.PlanTree.{tree_of}
 use Rattle.plan_tree.proofs.Trees.{plans_make_trees}
 use Rattle.hop_kernels.specs.Fitting.{StageFits}
+use Rattle.hop_kernels.proofs.Rising.{parts-rising}
 use Rattle.hop_kernels.proofs.Roots.{parts-few, parts-numbered}
 use Rattle.hop_kernels.proofs.StageFitting.{plan_fits}
 use Rattle.hop_kernels.proofs.tree.PlanTree.new.Goals as goal
@@ -18,6 +19,7 @@ invariant_of-result c =
       tests_are = c.label_tests-tests.ensures;
       few = parts-few c.args.parts.items are;
       numbered = parts-numbered c.args.parts.items are;
+      rising = parts-rising c.args.parts.items are;
       room = c.requires.room;
       fits = subst (λ plan. AllByRecursion (StageFits query) plan.stages) (sym c.requires.plan) (plan_fits query c.requires.well);
       a_tree = subst (λ plan. IsTree (tree_of (record { texts = texts; query = query; plan = plan; parts = c.args.parts.items }))) (sym c.requires.plan)
