@@ -16,5 +16,5 @@ returns-clause-answer c =
     let query = c.args.query.now in
     if_ok (λ found. found.items ≡ rows_of texts (arrangement_of query) (map (shown_in texts query) c.args.rows.items)) _
     (λ found is graph matches stand permuted graph_shown meaning formed.
-    is ∙ rows-of_contexts texts graph query c.len.ensures.distinct graph_shown meaning formed c.args.rows.items matches stand permuted)
+    is ∙ rows-of_contexts texts graph query c.len-count.ensures.distinct graph_shown meaning formed c.args.rows.items matches stand permuted)
     c.rows_shown.result c.rows_shown.ensures
