@@ -19,7 +19,7 @@ use std::io;
 fn play(alloc: Global, line: &str) -> Result<String, NoMemory> {
     let mut parts = line.split('|');
     let name = parts.next().unwrap_or("").trim();
-    let Some(scene) = words::scene(parts.next().unwrap_or("")) else {
+    let Some(scene) = words::setting(parts.next().unwrap_or("")) else {
         return Ok(format!(in alloc; "{name}: no such shape")?);
     };
     let tally = runs::run(alloc, &scene)?;

@@ -24,7 +24,7 @@ fn number(word: Option<&str>) -> u32 {
 
 /// What these numbers say: stages, machines, the roots of the first machine and of each other one, places, skips; then
 /// workers, credit, broad budget, the contexts of a buffer, and seeds.
-pub fn scene(numbers: &str) -> Option<Scene>
+pub fn setting(numbers: &str) -> Option<Scene>
     ensures { IfSome result IsScene }
 {
     let mut words = numbers.split_whitespace();
