@@ -1,0 +1,3 @@
+pub mod Fans
+pub mod Laws
+pub mod Scenes
