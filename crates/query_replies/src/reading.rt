@@ -62,13 +62,13 @@ fn verdict_on_tree(
     schema: &Schema,
     texts: &mut Texts,
     number: u32,
-    ast: Ast,
+    ast: &Ast,
 ) -> Result<Verdict, NoMemory>
-    requires paths { 0 < length ast.paths }
-    ensures verdict { (base : ℕ) (text : List ℕ) → IsTree 64 base text ast → IfOk result (IsVerdict schema.now number base text texts.old texts.new) }
+    requires paths { 0 < length ast.now.paths }
+    ensures verdict { (base : ℕ) (text : List ℕ) → IsTree 64 base text ast.now → IfOk result (IsVerdict schema.now number base text texts.old texts.new) }
     ensures kept { OnOk result (Kept texts.old texts.new) }
 {
-    if !has_numbers(texts, &ast) {
+    if !has_numbers(texts, ast) {
         return Err(NoMemory);
     }
     match type_query(alloc, ast, schema, texts) {
@@ -95,7 +95,7 @@ pub fn read_query(
         Ok(ast) => {
             // What this promises says that the query is well-formed.
             trees_have_paths();
-            verdict_on_tree(alloc, schema, texts, number, ast)
+            verdict_on_tree(alloc, schema, texts, number, &ast)
         }
         Err(fault) => refused(alloc, number, refusal_of_syntax(fault)?),
     }
