@@ -1,3 +1,4 @@
+pub mod EndFacts
 pub mod RowLaws
 pub mod SoundFacts
 pub mod LoadFacts

@@ -7,7 +7,7 @@
 //!
 //! Right after `load_graph` each label and each value means something under the texts (`IsWhole`). A store's
 //! own faults come only where its counts rose in this call, and of a file that the definition would load.
-//! Want of memory is an answer of its own.
+//! Out of memory is an answer of its own.
 #![tactic(auto)]
 
 mod load;

@@ -1,5 +1,5 @@
 //! Loading the files of a graph.
-ghost use Rattle.std.specs.Prelude.{◌≡◌, ◌<◌, ◌≤◌, ◌+◌, ◌-◌, ◌^◌, IfErr, IfOk, IfSome, OnOk, drop, length};
+ghost use Rattle.std.specs.Prelude.{◌≡◌, ◌<◌, ◌≤◌, ◌+◌, ◌-◌, ◌^◌, Err, IfErr, IfOk, IfSome, MatchResult, Ok, OnOk, drop, length};
 ghost use Rattle.adfs_base.specs.Files.{file_of};
 ghost use Rattle.csv.specs.Records.{fields_of};
 ghost use Rattle.csv_records.specs.Table.{records_of};
@@ -287,6 +287,21 @@ fn load_named<S: Store>(
     load_tables(alloc, store, &tables, &mut bytes, loading)
 }
 
+// The graph of what was loaded, if loading it went well.
+fn graph_from(
+    alloc: Global,
+    loading: Loading,
+    loaded: Result<u64, TableFault>,
+) -> Result<Graph, TableFault>
+    requires { OnOk loaded (IsSound loading) }
+    ensures { MatchResult loaded (λ _. result ≡ Ok (graph_of loading)) (λ e. result ≡ Err e) }
+{
+    match loaded {
+        Ok(_) => Ok(Graph::new(alloc, loading)),
+        Err(fault) => Err(fault),
+    }
+}
+
 /// Loads the graph of a manifest and the tables that it names.
 ///
 /// Where the store tells its files, the answer is exactly `loaded` of them: the graph, or the first fault
@@ -308,6 +323,6 @@ pub fn load_graph<S: Store>(
     ensures reached { IfErr result (λ e. e.kind ≡ TableKind.ReadFault → IfSome (S.files store.old) (λ files. IsReached files manifest.now e.file)) }
 {
     let mut loading = Loading::new(alloc);
-    load_named(alloc, store, manifest, &mut loading)?;
-    Ok(Graph::new(alloc, loading))
+    let loaded = load_named(alloc, store, manifest, &mut loading);
+    graph_from(alloc, loading, loaded)
 }

@@ -364,7 +364,7 @@ fn take_each(
     Ok(())
 }
 
-/// Adds the elements of the records behind a header.
+/// Adds the elements of the records after a header.
 pub(crate) fn take_records(
     alloc: Global,
     of: ElementKind,

@@ -10,7 +10,7 @@
 //! (`specs/Manifest.antt`, `specs/Headers.antt`), or the first fault. `Loading` is a graph that is being
 //! loaded, as plain data; what it keeps from record to record is `IsSound` (`specs/Loading.antt`).
 //!
-//! Want of memory is an answer of its own. Of `Graph`'s calls only `into_bare` takes memory.
+//! Out of memory is an answer of its own. Of `Graph`'s calls only `into_bare` takes memory.
 #![tactic(auto)]
 
 mod bare;

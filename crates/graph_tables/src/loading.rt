@@ -1,12 +1,12 @@
 //! A graph that is being loaded.
 ghost use Rattle.std.specs.Prelude.{◌≡◌, IfOk};
 ghost use Rattle.graph_tables.specs.Graph.{empty_graph};
-ghost use Rattle.graph_tables.specs.Loading.{IsReadable, IsSound, graph_of, properties_in, tables_in};
+ghost use Rattle.graph_tables.specs.Loading.{IsBare, IsReadable, IsSound, edges_with, graph_of, properties_in, tables_in};
 
 use crate::bare::BareGraph;
 use crate::properties::Properties;
 use adfs_base::NoMemory;
-use element_store::Elements;
+use element_store::{ElementList, Elements};
 use std::alloc::Global;
 use value_text::Texts;
 
@@ -52,8 +52,40 @@ impl Loading {
         ensures vertices { IfOk result (λ bare. bare.vertices ≡ (graph_of self).vertices) }
         ensures edges { IfOk result (λ bare. bare.edges ≡ (graph_of self).edges) }
     {
-        let vertices = self.vertices.into_list(alloc)?;
-        let edges = self.edges.into_list(alloc)?;
-        Ok(BareGraph::new(vertices, edges, self.ends))
+        let Loading {
+            vertices,
+            edges,
+            ends,
+            ..
+        } = self;
+        bare_of(alloc, vertices, edges, ends)
     }
+}
+
+// The elements of both kinds by their numbers.
+fn lists_of(
+    alloc: Global,
+    vertices: Elements,
+    edges: Elements,
+) -> Result<(ElementList, ElementList), NoMemory>
+    ensures vertices { IfOk result (λ lists. lists.0 ≡ vertices.elements) }
+    ensures edges { IfOk result (λ lists. lists.1 ≡ edges.elements) }
+{
+    let vertices = vertices.into_list(alloc)?;
+    let edges = edges.into_list(alloc)?;
+    Ok((vertices, edges))
+}
+
+// The same, with the ends of the edges.
+fn bare_of(
+    alloc: Global,
+    vertices: Elements,
+    edges: Elements,
+    ends: Vec<Ends>,
+) -> Result<BareGraph, NoMemory>
+    requires { IsBare vertices.elements edges.elements ends.items }
+    ensures { IfOk result (λ bare. bare ≡ record { vertices = vertices.elements; edges = edges_with edges.elements ends.items }) }
+{
+    let (vertices, edges) = lists_of(alloc, vertices, edges)?;
+    Ok(BareGraph::new(vertices, edges, ends))
 }

@@ -60,7 +60,7 @@ impl Properties {
         }
     }
 
-    /// Adds a property whose name is new. After want of memory nothing has changed.
+    /// Adds a property whose name is new. Where memory runs out nothing has changed.
     pub(crate) fn push(&mut self, alloc: Global, name: &[u8], kind: Kind) -> Result<(), NoMemory>
         requires new { property_of self.old name.now ≡ None }
         requires few { length self.old < 2 ^ 32 - 1 }

@@ -1,5 +1,6 @@
 -- Lines of an owner file, and what they leave.
-use Rattle.std.proofs.Common.{◌≡◌, ◌∙◌, sym, ap, refl, arith, ℕ, zero, suc, ◌+◌, ◌-◌, ◌^◌, ◌<◌, ◌≤◌, min, nat_lt, ◌==◌, Bool, true, false, cond, ℤ, pos, int_eq, List, [], ◌∷◌, length, map, take, replicate, slice_get, slice_set, slice_index_or, Option, Some, None, is_some, IfSome, Result, Ok, Err}
+use Rattle.std.proofs.Common.{◌≡◌, ◌∙◌, sym, ap, refl, arith, ℕ, zero, suc, ◌+◌, ◌-◌, ◌^◌, ◌<◌, ◌≤◌, min, nat_lt, ◌==◌, Bool, true, false, cond}
+use Rattle.std.proofs.Common.{ℤ, pos, int_eq, List, [], ◌∷◌, length, map, take, replicate, slice_get, slice_set, slice_index_or, Option, Some, None, is_some, IfSome, Result, Ok, Err}
 use Rattle.std.specs.List.{AllByRecursion}
 use Rattle.std.specs.Option.{option_map}
 use Rattle.std.proofs.lemmas.Bool.Decides.{nat_tests}

@@ -1,10 +1,10 @@
 -- The parts of machines, from what they have of their own and what they share.
-use Rattle.std.proofs.Common.{◌≡◌, ◌∙◌, ap, refl, ℕ, ◌<◌, ◌==◌, ◌^◌, Bool, true, false, List, [], ◌∷◌, length, map, slice_index}
+use Rattle.std.proofs.Common.{◌≡◌, ◌∙◌, ap, refl, ℕ, ◌<◌, ◌==◌, ◌^◌, Bool, true, false, List, [], ◌∷◌, length, map, slice_index, Result, Ok, Err, IfOk}
 use Rattle.std.proofs.lemmas.List.{length-map}
 use Rattle.std.specs.List.{AllByRecursion}
 use Rattle.graph_tables.specs.Graph.{PropertyGraph, without_ends}
 use Rattle.partition.specs.Kept.{AreDealt, AreLists, HoldsLists, IsOwn, IsPart, element_at, entry_lists, part_in}
-use Rattle.partition.specs.Parts.{entries_of, part_with, vertices_of}
+use Rattle.partition.specs.Parts.{MachinePart, entries_of, part_with, vertices_of}
 use Rattle.partition.specs.declared.adjacency.Lists.{Lists}
 use Rattle.partition.specs.declared.lists.Own.{Own}
 use Rattle.partition.specs.declared.shared.Shared.{Shared}
@@ -71,3 +71,8 @@ module _ (machines : ℕ) (g : PropertyGraph) (shared : Shared) (each : length s
       → AllByRecursion (IsPart shared) all
   parts_kept [] few dealt own = tt
   parts_kept (o ∷ os) few dealt own = (part_kept o own.0 few dealt, parts_kept os few dealt own.1)
+
+-- the same of other parts that are these
+pub met : {T E : Type 0} (r : Result T E) (f : T → List MachinePart) (a b : List MachinePart) → a ≡ b → IfOk r (λ parts. f parts ≡ a) → IfOk r (λ parts. f parts ≡ b)
+met (Ok parts) f a b e is = is ∙ e
+met (Err x) f a b e is = tt

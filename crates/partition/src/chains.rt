@@ -8,14 +8,14 @@ use adfs_base::NoMemory;
 use graph_tables::BareGraph;
 use std::alloc::Global;
 
-/// The first edge of each vertex in one direction, and behind each edge the next of the same vertex.
+/// The first edge of each vertex in one direction, and after each edge the next of the same vertex.
 #[derive(Drop)]
 pub(crate) struct Chains {
     pub(crate) first: Vec<u32>,
     pub(crate) next: Vec<u32>,
 }
 
-/// Stands behind the last edge of a vertex.
+/// Stands after the last edge of a vertex.
 pub(crate) const NO_NUMBER: u32 = u32::MAX;
 
 // The end in whose list an edge stands.

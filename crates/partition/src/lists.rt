@@ -62,6 +62,25 @@ fn fill_list(
     Ok(())
 }
 
+// About as many links as lists of so many vertices have: their share of the edges, and a little more, but no more than
+// there are edges.
+fn links_about(graph: &BareGraph, vertices: usize) -> usize {
+    let all = u64::from(graph.vertices().max(1));
+    let edges = u64::from(graph.edges());
+    let share = edges.saturating_mul(vertices as u64) / all;
+    share.saturating_add(share / 16).min(edges) as usize
+}
+
+// No lists yet, with room for those of so many vertices.
+fn no_lists(alloc: Global, graph: &BareGraph, vertices: usize) -> Result<Lists, NoMemory>
+    ensures spans { IfOk result (λ lists. lists.spans.items ≡ []) }
+    ensures links { IfOk result (λ lists. lists.links.items ≡ []) }
+{
+    let spans = Vec::with_capacity(alloc, vertices)?;
+    let links = Vec::with_capacity(alloc, links_about(graph, vertices))?;
+    Ok(Lists { spans, links })
+}
+
 // The lists of vertices in one direction, each in order.
 fn link_all(
     alloc: Global,
@@ -76,11 +95,9 @@ fn link_all(
     requires chains { AreChains (length graph.now.vertices) out graph.now.edges chains.now }
     ensures { IfOk result (HoldsLists owners.now out graph.now.edges numbers.now) }
 {
+    let mut lists = no_lists(alloc, graph, numbers.len())?;
     let mut list = Vec::new(alloc);
-    let mut lists = Lists {
-        spans: Vec::with_capacity(alloc, numbers.len())?,
-        links: Vec::new(alloc),
-    };
+    // What this call promises bounds how many links there can be.
     let _edges = graph.edges();
     for vertex in numbers {
         fill_list(graph, owners, chains, out, *vertex, &mut list)?;
@@ -103,6 +120,7 @@ fn own_of(
     ensures machine { IfOk result (λ own. own.machine ≡ machine) }
     ensures own { IfOk result (IsOwn owners.now graph.now.edges) }
 {
+    // What this call promises bounds the vertices, as `number_list` asks.
     let _vertices = graph.vertices();
     let numbers = number_list(alloc, owners, machine)?;
     let outgoing = link_all(alloc, graph, owners, &numbers, &both.outgoing, true)?;

@@ -1,9 +1,10 @@
 //! How a graph is split.
-ghost use Rattle.std.specs.Prelude.{◌≡◌, ◌<◌, ◌^◌, IfOk, length, map};
+ghost use Rattle.std.specs.Prelude.{◌≡◌, ◌<◌, ◌^◌, ◌++◌, ◌∷◌, [], IfOk, OnOk, length, map};
 ghost use Rattle.std.specs.List.{AllByRecursion, range_with_len};
+ghost use Rattle.graph_tables.specs.Graph.{PropertyGraph};
 ghost use Rattle.partition.specs.Kept.{AreDealt, IsOwn, IsPart, part_in};
 ghost use Rattle.partition.specs.Owners.{IsOwner};
-ghost use Rattle.partition.specs.Parts.{PartsMeet, owners_in};
+ghost use Rattle.partition.specs.Parts.{PartsMeet, owners_in, part_with};
 
 use crate::chains::deal_edges;
 use crate::dealing::{Dealing, deal};
@@ -50,6 +51,38 @@ fn dealt(
     Ok((dealing, all))
 }
 
+// Adds the part of a machine.
+fn add_part(
+    machines: u32,
+    shared: &Arc<Shared, Global>,
+    own: Own,
+    parts: &mut Vec<Part>,
+) -> Result<(), NoMemory>
+    requires { IsPart shared.now.value own }
+    ensures { OnOk result (parts.new.items ≡ parts.old.items ++ part_in machines shared.now.value own ∷ []) }
+{
+    let shared = Arc::try_clone(shared)?;
+    parts.push(Part::new(machines, shared, own))?;
+    Ok(())
+}
+
+// Adds the part of each machine.
+fn add_parts(
+    machines: u32,
+    shared: &Arc<Shared, Global>,
+    all: Vec<Own>,
+    parts: &mut Vec<Part>,
+) -> Result<(), NoMemory>
+    requires parts { AllByRecursion (IsPart shared.now.value) all.items }
+    requires empty { parts.old.items ≡ [] }
+    ensures { OnOk result (parts.new.items ≡ map (part_in machines shared.now.value) all.items) }
+{
+    for own in all {
+        add_part(machines, shared, own, parts)?;
+    }
+    Ok(())
+}
+
 // The parts, of what each machine has and of what all share.
 fn parts(
     alloc: Global,
@@ -60,11 +93,8 @@ fn parts(
     requires { AllByRecursion (IsPart shared.now.value) all.items }
     ensures { IfOk result (λ parts. parts.items ≡ map (part_in machines shared.now.value) all.items) }
 {
-    let mut parts = Vec::with_capacity(alloc, all.len())?;
-    for own in all {
-        let shared = Arc::try_clone(shared)?;
-        parts.push(Part::new(machines, shared, own))?;
-    }
+    let mut parts = Vec::new(alloc);
+    add_parts(machines, shared, all, &mut parts)?;
     Ok(parts)
 }
 
@@ -80,6 +110,46 @@ fn joined(
 {
     let shared = Arc::new(alloc, shared)?;
     parts(alloc, machines, &shared, all)
+}
+
+// The parts of a graph, of its lists and of what each machine has.
+fn put_together(
+    alloc: Global,
+    machines: u32,
+    bare: BareGraph,
+    dealing: Dealing,
+    all: Vec<Own>,
+) -> Result<Vec<Part>, NoMemory>
+    requires few { length bare.vertices < 2 ^ 32 }
+    requires dealt { AreDealt (length bare.vertices) dealing }
+    requires machines { map (λ own. own.machine) all.items ≡ range_with_len 0 machines }
+    requires own { AllByRecursion (IsOwn dealing.owners.items bare.edges) all.items }
+    ensures { (graph : PropertyGraph) → graph.vertices ≡ bare.vertices → graph.edges ≡ bare.edges → IfOk result (λ parts. parts.items ≡ map (λ machine. part_with dealing.owners.items machines graph machine) (range_with_len 0 machines)) }
+{
+    let (vertices, edges) = bare.into_lists();
+    let shared = Shared {
+        dealing,
+        vertices,
+        edges,
+    };
+    joined(alloc, machines, shared, all)
+}
+
+// Splits a graph that is read by numbers alone.
+fn split_bare(
+    alloc: Global,
+    bare: BareGraph,
+    owner: &Owner,
+    machines: u32,
+) -> Result<Vec<Part>, NoMemory>
+    requires some { 0 < machines }
+    requires owner { IsOwner owner.now (length bare.vertices) machines }
+    ensures { (graph : PropertyGraph) → graph.vertices ≡ bare.vertices → graph.edges ≡ bare.edges → IfOk result (λ parts. PartsMeet graph owner.now machines parts.items) }
+{
+    // What this call promises bounds the vertices.
+    let _vertices = bare.vertices();
+    let (dealing, all) = dealt(alloc, &bare, owner, machines)?;
+    put_together(alloc, machines, bare, dealing, all)
 }
 
 /// Splits a graph into the parts of machines, of which there is one at least. An owner that lists the
@@ -98,14 +168,5 @@ pub fn split(
     ensures parts { IfOk result (λ parts. PartsMeet graph owner.now machines parts.items) }
 {
     let bare = graph.into_bare()?;
-    // What this call promises bounds the vertices.
-    let _vertices = bare.vertices();
-    let (dealing, all) = dealt(alloc, &bare, owner, machines)?;
-    let (vertices, edges) = bare.into_lists();
-    let shared = Shared {
-        dealing,
-        vertices,
-        edges,
-    };
-    joined(alloc, machines, shared, all)
+    split_bare(alloc, bare, owner, machines)
 }
