@@ -23,7 +23,7 @@ comma : records_of (44 ∷ 10 ∷ 34 ∷ 34 ∷ 10 ∷ []) ≡ ([] ∷ [] ∷ []
 unfolding csv_on_literals
 comma = refl
 
--- a lone carriage return ends a record; a space and a quote inside a field are bytes; bytes behind a closing quote join
+-- a lone carriage return ends a record; a space and a quote inside a field are bytes; bytes after a closing quote join
 odd : records_of (97 ∷ 13 ∷ 32 ∷ 98 ∷ 34 ∷ 99 ∷ 44 ∷ 34 ∷ 100 ∷ 34 ∷ 101 ∷ []) ≡ ((97 ∷ []) ∷ []) ∷ ((32 ∷ 98 ∷ 34 ∷ 99 ∷ []) ∷ (100 ∷ 101 ∷ []) ∷ []) ∷ []
 unfolding csv_on_literals
 odd = refl

@@ -70,11 +70,11 @@ unfolding next_record
 begins_quoted before [] e = absurd (false≢true e)
 begins_quoted before (c ∷ rest) e = rw e refl
 
--- behind a quote inside of quotes: another doubles it, and else the quotes are closed
-behind_quote : (before : List (List ℕ)) (field text : List ℕ) → record_from st.AfterQuote before field text ≡ cond (is_quoted text) (record_from st.InQuoted before (field ++ 34 ∷ []) (drop 1 text)) (record_from st.InField before field text)
+-- after a quote inside of quotes: another doubles it, and else the quotes are closed
+after_quote : (before : List (List ℕ)) (field text : List ℕ) → record_from st.AfterQuote before field text ≡ cond (is_quoted text) (record_from st.InQuoted before (field ++ 34 ∷ []) (drop 1 text)) (record_from st.InField before field text)
 unfolding next_record
-behind_quote before field [] = refl
-behind_quote before field (c ∷ rest) = by (is_quote c) refl
+after_quote before field [] = refl
+after_quote before field (c ∷ rest) = by (is_quote c) refl
   where
     by : (b : Bool) → is_quote c ≡ b → record_from st.AfterQuote before field (c ∷ rest) ≡ cond (is_quoted (c ∷ rest)) (record_from st.InQuoted before (field ++ 34 ∷ []) rest) (record_from st.InField before field (c ∷ rest))
     by true e =
@@ -103,7 +103,7 @@ quoted before field (c ∷ rest) = by (is_quote c) refl (quoted before (field ++
         (record_from st.InField before (field ++ take (quote_at (c ∷ rest)) (c ∷ rest)) (drop 1 (drop (quote_at (c ∷ rest)) (c ∷ rest))))
     by true e more =
         let at : quote_at (c ∷ rest) ≡ 0 = rw e refl in
-        rw (at, append-nil, e) (behind_quote before field rest)
+        rw (at, append-nil, e) (after_quote before field rest)
     by false e more =
         let at : quote_at (c ∷ rest) ≡ suc (quote_at rest) = rw (e, one-add) refl in
         rw (at, e) (rw (append_assoc field (c ∷ []) (take (quote_at rest) rest)) at more)

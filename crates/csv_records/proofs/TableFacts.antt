@@ -61,7 +61,7 @@ same_turns cfg (suc m) (suc n) s xs a b = by (λ s2 ys. same_turns cfg m n s2 ys
     by more None e = refl
     by more (Some r) e = ap (λ t. r.0 ∷ t) (rest more r (shrinks cfg s [] [] xs r e))
 
--- a record and the records behind it
+-- a record and the records after it
 pub records-some : (cfg : Config) (s : State) (xs : List ℕ) (r : Read) → next_record cfg s [] [] xs ≡ Some r → records_from cfg (length xs + 1) s xs ≡ r.0 ∷ records_from cfg (length r.2 + 1) r.1 r.2
 unfolding records_from
 records-some cfg s xs r e = rw (add-one (length xs), e) (ap (λ t. r.0 ∷ t) (rest (shrinks cfg s [] [] xs r e)))
@@ -74,17 +74,17 @@ pub records-none : (cfg : Config) (s : State) (xs : List ℕ) → next_record cf
 unfolding records_from
 records-none cfg s xs e = rw (add-one (length xs), e) refl
 
--- where a record ends, the next one begins: behind a carriage return too, since blank lines are none
+-- where a record ends, the next one begins: after a carriage return too, since blank lines are none
 abbrev Begins : State → Type 0
 Begins s = (xs : List ℕ) → next_record default_config s [] [] xs ≡ next_record default_config st.StartRecord [] [] xs
 
 fresh : Begins st.StartRecord
 fresh xs = refl
 
-behind_return : Begins st.AfterCr
+after_return : Begins st.AfterCr
 unfolding next_record
-behind_return [] = refl
-behind_return (c ∷ rest) = by (c == 13) (c == 10) refl refl
+after_return [] = refl
+after_return (c ∷ rest) = by (c == 13) (c == 10) refl refl
   where
     by : (a b : Bool) → (c == 13) ≡ a → (c == 10) ≡ b → next_record default_config st.AfterCr [] [] (c ∷ rest) ≡ next_record default_config st.StartRecord [] [] (c ∷ rest)
     by true true p q = rw (q, p) refl
@@ -97,7 +97,7 @@ field-ends c e = by (c == 44) (c == 13) (c == 10) refl refl refl e
   where
     by : (a b d : Bool) → (c == 44) ≡ a → (c == 13) ≡ b → (c == 10) ≡ d → is_end (in_field default_config c).1 ≡ true → Begins (in_field default_config c).0
     by true b d p q r f = absurd (false≢true (rw p at f))
-    by false true d p q r f = rw (p, q) behind_return
+    by false true d p q r f = rw (p, q) after_return
     by false false true p q r f = rw (p, q, r) fresh
     by false false false p q r f = absurd (false≢true (rw (p, q, r) at f))
 
@@ -137,16 +137,16 @@ step-ends st.InComment c e = by (c == 10) refl e
     by false p f = absurd (false≢true (rw p at f))
 step-ends st.AfterCr c e = skips-end (c == 10) (start_record default_config c) (first-ends c) e
 
--- the state behind a record is one at which a record begins
-state-behind : (s : State) (f : List (List ℕ)) (p xs : List ℕ) (r : Read) → next_record default_config s f p xs ≡ Some r → Begins r.1
+-- the state after a record is one at which a record begins
+state-after : (s : State) (f : List (List ℕ)) (p xs : List ℕ) (r : Read) → next_record default_config s f p xs ≡ Some r → Begins r.1
 unfolding next_record
-state-behind s f p [] r e = by (ends_at_end s) e
+state-after s f p [] r e = by (ends_at_end s) e
   where
     by : (b : Bool) → cond b (Some (f ++ (p ∷ []), st.StartRecord, [])) None ≡ Some r → Begins r.1
     by true w = let is : st.StartRecord ≡ r.1 = cc w in rw (← is) fresh
     by false w = cc w
-state-behind s f p (c ∷ rest) r e =
-    by (is_end (step default_config s c).1) refl (state-behind (step default_config s c).0 (fields_after (step default_config s c).1 f p) (field_after (step default_config s c).1 c p) rest r) e
+state-after s f p (c ∷ rest) r e =
+    by (is_end (step default_config s c).1) refl (state-after (step default_config s c).0 (fields_after (step default_config s c).1 f p) (field_after (step default_config s c).1 c p) rest r) e
   where
     by : (b : Bool) → is_end (step default_config s c).1 ≡ b
         → (next_record default_config (step default_config s c).0 (fields_after (step default_config s c).1 f p) (field_after (step default_config s c).1 c p) rest ≡ Some r → Begins r.1)
@@ -164,7 +164,7 @@ from_begun n s xs begins = rw (add-one n, begins xs) refl
 inside : {A : Type 0} (x y : A) → Some x ≡ Some y → x ≡ y
 inside x y e = cc e
 
--- a record that was read, and those behind it
+-- a record that was read, and those after it
 one_read : (xs ys : List ℕ) (f : List (List ℕ)) → record_from st.StartRecord [] [] xs ≡ Some (f, ys) → records default_config xs ≡ f ∷ records default_config ys
 one_read xs ys f e = by (next_record default_config st.StartRecord [] [] xs) refl e
   where
@@ -174,7 +174,7 @@ one_read xs ys f e = by (next_record default_config st.StartRecord [] [] xs) ref
         let both = inside {A = List (List ℕ) × List ℕ} (r.0, r.2) (f, ys) q in
         let fields : r.0 ≡ f = ap (λ (t : List (List ℕ) × List ℕ). t.0) both in
         let rest : r.2 ≡ ys = ap (λ (t : List (List ℕ) × List ℕ). t.1) both in
-        rw (← fields, ← rest) (records-some default_config st.StartRecord xs r p ∙ ap (λ t. r.0 ∷ t) (from_begun (length r.2) r.1 r.2 (state-behind st.StartRecord [] [] xs r p)))
+        rw (← fields, ← rest) (records-some default_config st.StartRecord xs r p ∙ ap (λ t. r.0 ∷ t) (from_begun (length r.2) r.1 r.2 (state-after st.StartRecord [] [] xs r p)))
 
 -- texts with the same first record have the same records
 same_first : (xs ys : List ℕ) → next_record default_config st.StartRecord [] [] xs ≡ next_record default_config st.StartRecord [] [] ys → records default_config xs ≡ records default_config ys
@@ -202,7 +202,7 @@ blank (c ∷ rest) = by (ends_line c) refl (blank rest)
         let at : start (c ∷ rest) ≡ 0 = rw e refl in
         rw at refl
 
--- where a text isn't blank, its first field begins behind the blank lines
+-- where a text isn't blank, its first field begins after the blank lines
 first_field : (xs : List ℕ) → (length (drop (start xs) xs) == 0) ≡ false
     → record_from st.StartRecord [] [] (drop (start xs) xs) ≡ record_from st.StartField [] [] (drop (start xs) xs)
 first_field [] some = cc some
@@ -219,7 +219,7 @@ first_field (c ∷ rest) some = by (ends_line c) refl (first_field rest) some
         let at : start (c ∷ rest) ≡ 0 = rw e refl in
         rw at (begins c rest e)
 
--- the first record of a text, and those behind it
+-- the first record of a text, and those after it
 pub record_read : (xs ys : List ℕ) (f : List (List ℕ)) → (length (drop (start xs) xs) == 0) ≡ false
     → record_from st.StartField [] [] (drop (start xs) xs) ≡ Some (f, ys) → records default_config xs ≡ f ∷ records default_config ys
 record_read xs ys f some e = same_first xs (drop (start xs) xs) (blank xs) ∙ one_read (drop (start xs) xs) ys f (first_field xs some ∙ e)

@@ -27,21 +27,21 @@ abbrev pub is_quoted : List ℕ → Bool
 is_quoted [] = false
 is_quoted (b ∷ rest) = is_quote b
 
--- the end of a field, with which the text begins, has another field of the record behind it
+-- the end of a field, with which the text begins, has another field of the record after it
 abbrev pub goes_on : List ℕ → Bool
 goes_on [] = false
 goes_on (b ∷ rest) = b == 44
 
--- the fields of a record and the text behind it, from a state on, with the fields before and the bytes of the one at hand
+-- the fields of a record and the text after it, from a state on, with the fields before and the bytes of the one at hand
 abbrev pub record_from : State → List (List ℕ) → List ℕ → List ℕ → Option (List (List ℕ) × List ℕ)
 record_from s before field text = option_map (λ (r : Read). (r.0, r.2)) (next_record default_config s before field text)
 
--- the same behind a field, where another one follows or none
+-- the same after a field, where another one follows or none
 abbrev pub record_after : Bool → List (List ℕ) → List ℕ → Option (List (List ℕ) × List ℕ)
 record_after true before text = record_from st.StartField before [] text
 record_after false before text = Some (before, text)
 
--- the same inside of quotes, or behind them
+-- the same inside of quotes, or after them
 abbrev pub record_within : Bool → List (List ℕ) → List ℕ → List ℕ → Option (List (List ℕ) × List ℕ)
 record_within true before field text = record_from st.InQuoted before field text
 record_within false before field text = record_from st.InField before field text

@@ -49,8 +49,8 @@ fn run_end(text: &[u8]) -> usize
     }
 }
 
-// The text behind its first byte.
-fn behind(text: &[u8]) -> &[u8]
+// The text after its first byte.
+fn after_first(text: &[u8]) -> &[u8]
     ensures rest { result.now ≡ drop 1 text.now }
 {
     match text.split_first() {
@@ -77,7 +77,7 @@ fn is_quoted(text: &[u8]) -> bool
     }
 }
 
-// Whether the end of a field, with which the text begins, has another field of the record behind it.
+// Whether the end of a field, with which the text begins, has another field of the record after it.
 fn goes_on(text: &[u8]) -> bool
     ensures value { result ≡ fields.goes_on text.now }
     ensures there { result ≡ true → 0 < length text.now }
@@ -88,7 +88,7 @@ fn goes_on(text: &[u8]) -> bool
     }
 }
 
-// Adds a field that isn't quoted. The answer says whether another field of the record follows, and what stands behind.
+// Adds a field that isn't quoted. The answer says whether another field of the record follows, and what stands after it.
 fn take_plain<'a>(text: &'a [u8], row: &mut ByteRecord) -> Result<(bool, &'a [u8]), AllocError>
     requires whole { partial_of row.old ≡ [] }
     ensures whole { OnOk result (partial_of row.new ≡ []) }
@@ -98,11 +98,11 @@ fn take_plain<'a>(text: &'a [u8], row: &mut ByteRecord) -> Result<(bool, &'a [u8
     let end = field_end(text);
     row.push_field(&text[..end])?;
     let tail = from_place(text, end);
-    Ok((goes_on(tail), behind(tail)))
+    Ok((goes_on(tail), after_first(tail)))
 }
 
 // Adds the bytes up to a quote to a field. The answer says whether the field goes on inside the quotes, as it does
-// where the quote is doubled, and what stands behind.
+// where the quote is doubled, and what follows.
 fn take_run<'a>(text: &'a [u8], field: &mut Vec<u8>) -> Result<(bool, &'a [u8]), AllocError>
     ensures taken { IfOk result (λ r. (before : List (List ℕ)) → record_from st.InQuoted before field.old.items text.now ≡ record_within r.0 before field.new.items r.1.now) }
     ensures shorter { IfOk result (λ r. (length r.1.now ≤ length text.now) × (r.0 ≡ true → length r.1.now < length text.now)) }
@@ -110,15 +110,15 @@ fn take_run<'a>(text: &'a [u8], field: &mut Vec<u8>) -> Result<(bool, &'a [u8]),
     let end = run_end(text);
     field.extend_from_slice(&text[..end])?;
     let tail = from_place(text, end);
-    let rest = behind(tail);
+    let rest = after_first(tail);
     if is_quoted(rest) {
         field.push(b'"')?;
-        return Ok((true, behind(rest)));
+        return Ok((true, after_first(rest)));
     }
     Ok((false, rest))
 }
 
-// Adds what is quoted to a field, from behind the opening quote on, and answers what stands behind the closing one.
+// Adds what is quoted to a field, where the text begins after the opening quote. Answers what follows the closing one.
 fn unquote<'a>(text: &'a [u8], field: &mut Vec<u8>) -> Result<&'a [u8], AllocError>
     ensures taken { IfOk result (λ rest. (before : List (List ℕ)) → record_from st.InQuoted before field.old.items text.now ≡ record_from st.InField before field.new.items rest.now) }
     ensures shorter { IfOk result (λ rest. length rest.now ≤ length text.now) }
@@ -126,14 +126,14 @@ fn unquote<'a>(text: &'a [u8], field: &mut Vec<u8>) -> Result<&'a [u8], AllocErr
     let mut rest = text;
     let mut inside = true;
     'runs: while inside {
-        let (again, behind) = take_run(rest, field)?;
+        let (again, after) = take_run(rest, field)?;
         inside = again;
-        rest = behind;
+        rest = after;
     }
     Ok(rest)
 }
 
-// Adds a field that is quoted, from behind the opening quote on. `field` is where it is put together.
+// Adds a field that is quoted, where the text begins after the opening quote. `field` is where it is put together.
 fn take_quoted<'a>(
     text: &'a [u8],
     row: &mut ByteRecord,
@@ -150,7 +150,7 @@ fn take_quoted<'a>(
     field.extend_from_slice(&rest[..end])?;
     row.push_field(field)?;
     let tail = from_place(rest, end);
-    Ok((goes_on(tail), behind(tail)))
+    Ok((goes_on(tail), after_first(tail)))
 }
 
 // Adds the field at the front of a text.
@@ -165,13 +165,13 @@ fn take_field<'a>(
     ensures shorter { IfOk result (λ r. r.0 ≡ true → length r.1.now < length text.now) }
 {
     if is_quoted(text) {
-        take_quoted(behind(text), row, field)
+        take_quoted(after_first(text), row, field)
     } else {
         take_plain(text, row)
     }
 }
 
-/// Adds the fields of the record at the front of a text, and answers the text behind it. `field` is where a
+/// Adds the fields of the record at the front of a text, and answers the text after it. `field` is where a
 /// quoted one is put together.
 pub(crate) fn take_fields<'a>(
     text: &'a [u8],
@@ -184,9 +184,9 @@ pub(crate) fn take_fields<'a>(
     let mut rest = text;
     let mut more = true;
     'fields: while more {
-        let (another, behind) = take_field(rest, row, field)?;
+        let (another, after) = take_field(rest, row, field)?;
         more = another;
-        rest = behind;
+        rest = after;
     }
     Ok(rest)
 }

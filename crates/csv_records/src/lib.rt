@@ -3,7 +3,7 @@
 //! What the records of a text are is said by the kit's `csv` (`records_of`): RFC 4180 with a comma and
 //! double quotes, no trimming, and three things that it leaves open. A byte order mark at the front is
 //! dropped, a lone carriage return ends a record too, and blank lines are no records. A quote that is never
-//! closed goes on to the end, and bytes behind a closing quote join the cell.
+//! closed goes on to the end, and bytes after a closing quote join the cell.
 //!
 //! They are read by loops of this crate, which pass over a cell as one run of bytes, where the kit's own reader
 //! looks bytes up one by one in the tables of its state machine. That both read the same is what the clause of

@@ -8,7 +8,7 @@ returns-clause-taken c =
     let quoted = rw c.clear.ensures.items at c.in_ok-rest.ensures.taken (fields_of c.args.row.now) in
     rw (
       c.goes_on.ensures.value,
-      c.behind.ensures.rest,
+      c.after_first.ensures.rest,
       c.from_place-tail.ensures,
       c.in_ok-push_field.ensures.fields,
       c.requires.whole,
