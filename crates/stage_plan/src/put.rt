@@ -106,7 +106,7 @@ fn stage_after(stage: u32, hop: Hop) -> u32
     }
 }
 
-// The lines of the hops, behind what the text has already.
+// The lines of the hops, after what the text has already.
 fn put_hops(alloc: Global, query: &Query, hops: &[Hop], text: &mut String) -> Result<(), AllocError>
     requires { length hops.now < 2 ^ 32 }
     ensures { OnOk result (string_bytes text.new ≡ string_bytes text.old ++ spec.hop_lines query.now 0 hops.now) }

@@ -3,6 +3,7 @@ use Rattle.std.proofs.Common.{◌≡◌, ◌∙◌, ℕ, List, ◌∷◌, length
 use Rattle.std.specs.Prelude.{fold}
 use Rattle.std.proofs.lemmas.List.{take_all}
 use Rattle.pgql_tree.specs.declared.ast.Ast.{Ast}
+use Rattle.pgql_tree.specs.declared.ast.Path.{Path}
 use Rattle.value_text.specs.Texts.{with_text}
 use Rattle.pattern_scope.specs.declared.fault.TypeFault.{TypeFault}
 use Rattle.pattern_scope.specs.declared.fault.TypeFault.TheVariants as fault
@@ -45,6 +46,21 @@ pub typed-in : (schema : SchemaLists) (old new : List (List ℕ)) (ast : Ast) (s
     → Gives old new answer (typed_by schema old ast scope (first_fault schema ast scope)) → Gives old new answer (typed schema old ast)
 unfolding typed
 typed-in schema old new ast scope answer declared gives = subst (λ s. Gives old new answer (typed_by schema old ast s (first_fault schema ast s))) declared gives
+
+-- a tree with other paths
+abbrev pathless : Ast → List Path → Ast
+pathless ast paths = record { distinct = ast.distinct; items = ast.items; paths = paths; condition = ast.condition; keys = ast.keys; limit = ast.limit }
+
+-- what is answered where the patterns are known depends on them no more
+same-typed : (schema : SchemaLists) (texts : List (List ℕ)) (ast : Ast) (paths : List Path) (scope : Scope) (first : Option TypeFault) → typed_by schema texts (pathless ast paths) scope first ≡ typed_by schema texts ast scope first
+same-typed schema texts ast paths scope None = refl
+same-typed schema texts ast paths scope (Some e) = refl
+
+-- so they may be gone by then
+pub typed-pathless : (schema : SchemaLists) (old new : List (List ℕ)) (ast : Ast) (paths : List Path) (scope : Scope) (answer : Result Query TypeFault) → scope ≡ scope_of ast.paths
+    → Gives old new answer (typed_by schema old (pathless ast paths) scope (first_fault schema (pathless ast paths) scope)) → Gives old new answer (typed schema old ast)
+typed-pathless schema old new ast paths scope answer declared gives =
+    typed-in schema old new ast scope answer declared (subst (Gives old new answer) (same-typed schema old ast paths scope (first_fault schema ast scope)) gives)
 
 -- A query that was given is that of a tree without faults, over the texts that were left.
 pub given : (schema : SchemaLists) (old new : List (List ℕ)) (ast : Ast) (scope : Scope) (query : Query) → typed_by schema old ast scope (first_fault schema ast scope) ≡ Ok (query, new)

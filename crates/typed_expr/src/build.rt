@@ -1,5 +1,5 @@
 //! The query that a tree without faults means.
-ghost use Rattle.std.specs.Prelude.{◌≡◌, ◌++◌, ◌∷◌, [], IfOk, OnOk, map};
+ghost use Rattle.std.specs.Prelude.{◌≡◌, ◌<◌, ◌+◌, ◌++◌, ◌∷◌, [], IfOk, OnOk, drop, length, map};
 ghost use Rattle.typed_expr.specs.Meaning as meaning;
 ghost use Rattle.typed_expr.specs.Typed as spec;
 
@@ -138,15 +138,62 @@ fn add_column(
     Ok(())
 }
 
-fn add_columns(
+// An item of nothing that takes memory.
+fn spent() -> Item {
+    Item {
+        expr: AstExpr::Bool {
+            truth: false,
+            at: 0,
+        },
+        name: None,
+        at: 0,
+    }
+}
+
+// Adds the column of the first of these items.
+fn add_first(
     items: &[Item],
     scene: Scene<'_>,
     select: &mut Items<(Expr, Name)>,
 ) -> Result<(), NoMemory>
-    ensures { OnOk result (select.new ≡ select.old ++ spec.select_of (meaning.meant scene.entry.schema.now scene.entry.variables.now scene.entry.captures.now scene.entry.texts.now) items.now) }
+    ensures { let means = meaning.meant scene.entry.schema.now scene.entry.variables.now scene.entry.captures.now scene.entry.texts.now in
+        OnOk result (select.new ++ spec.select_of means (drop 1 items.now) ≡ select.old ++ spec.select_of means items.now) }
 {
-    for item in items {
-        add_column(item, scene, select)?;
+    match items {
+        [item, ..] => add_column(item, scene, select),
+        [] => Ok(()),
+    }
+}
+
+// Adds the column of the item in this place, and lets the item's memory go.
+fn add_column_at(
+    items: &mut Items<Item>,
+    place: usize,
+    scene: Scene<'_>,
+    select: &mut Items<(Expr, Name)>,
+) -> Result<(), NoMemory>
+    requires { place < length items.old }
+    ensures column { let means = meaning.meant scene.entry.schema.now scene.entry.variables.now scene.entry.captures.now scene.entry.texts.now in
+        OnOk result (select.new ++ spec.select_of means (drop (place + 1) items.old) ≡ select.old ++ spec.select_of means (drop place items.old)) }
+    ensures rest { drop (place + 1) items.new ≡ drop (place + 1) items.old }
+    ensures as_many { length items.new ≡ length items.old }
+{
+    add_first(&items.as_slice()[place..], scene, select)?;
+    items.set(place, spent());
+    Ok(())
+}
+
+// Adds the columns of the items, each of which is let go of as soon as it has its column: so memory is taken for one
+// tree of them, and not for two.
+fn add_columns(
+    items: &mut Items<Item>,
+    scene: Scene<'_>,
+    select: &mut Items<(Expr, Name)>,
+) -> Result<(), NoMemory>
+    ensures { OnOk result (select.new ≡ select.old ++ spec.select_of (meaning.meant scene.entry.schema.now scene.entry.variables.now scene.entry.captures.now scene.entry.texts.now) items.old) }
+{
+    for place in 0..items.len() {
+        add_column_at(items, place, scene, select)?;
     }
     Ok(())
 }
@@ -244,29 +291,28 @@ fn add_edges(edges: &[EdgeJoin], found: &mut Items<EdgeJoin>) -> Result<(), NoMe
     Ok(())
 }
 
-// What the expressions of the tree mean.
+// What the expressions of the tree mean. The order keys, which speak of items, come before these are let go of.
 fn add_expressions(
-    ast: &Ast,
+    ast: &mut Ast,
     scene: Scene<'_>,
     conjuncts: &mut Items<Expr>,
     select: &mut Items<(Expr, Name)>,
     keys: &mut Items<(Expr, bool)>,
 ) -> Result<(), NoMemory>
     ensures { let means = meaning.meant scene.entry.schema.now scene.entry.variables.now scene.entry.captures.now scene.entry.texts.now in
-        OnOk result ((conjuncts.new ≡ conjuncts.old ++ spec.conjuncts_of means ast.now.condition)
-        × (select.new ≡ select.old ++ spec.select_of means ast.now.items)
-        × (keys.new ≡ keys.old ++ spec.keys_of means ast.now.items ast.now.keys)) }
+        OnOk result ((conjuncts.new ≡ conjuncts.old ++ spec.conjuncts_of means ast.old.condition)
+        × (select.new ≡ select.old ++ spec.select_of means ast.old.items)
+        × (keys.new ≡ keys.old ++ spec.keys_of means ast.old.items ast.old.keys)) }
 {
-    let items = ast.items.as_slice();
+    add_order(ast.items.as_slice(), ast.keys.as_slice(), scene, keys)?;
     add_condition(&ast.condition, scene, conjuncts)?;
-    add_columns(items, scene, select)?;
-    add_order(items, ast.keys.as_slice(), scene, keys)
+    add_columns(&mut ast.items, scene, select)
 }
 
 // Fills a bare query.
 fn fill(
     alloc: Global,
-    ast: &Ast,
+    ast: &mut Ast,
     scope: &Scope,
     schema: &Schema,
     texts: &Texts,
@@ -274,8 +320,8 @@ fn fill(
     query: &mut Query,
 ) -> Result<(), NoMemory>
     requires captures { captures.old ≡ [] }
-    requires query { query.old ≡ record { variables = []; edges = []; captures = []; conjuncts = []; select = []; keys = []; distinct = ast.now.distinct; limit = ast.now.limit } }
-    ensures { OnOk result (query.new ≡ spec.query_of schema.now ast.now scope.now texts.now) }
+    requires query { query.old ≡ record { variables = []; edges = []; captures = []; conjuncts = []; select = []; keys = []; distinct = ast.old.distinct; limit = ast.old.limit } }
+    ensures { OnOk result (query.new ≡ spec.query_of schema.now ast.old scope.now texts.now) }
 {
     add_captures(ast, &scope.variables, schema, captures)?;
     let scene = Scene {
@@ -297,15 +343,16 @@ fn fill(
     add_edges(scope.edges.as_slice(), &mut query.edges)
 }
 
-/// The query that a tree without faults means, over texts that have those of its literals.
+/// The query that a tree without faults means, over texts that have those of its literals. Of the tree nothing is left that
+/// means something.
 pub fn query_of(
     alloc: Global,
-    ast: &Ast,
+    ast: &mut Ast,
     scope: &Scope,
     schema: &Schema,
     texts: &Texts,
 ) -> Result<Query, NoMemory>
-    ensures { IfOk result (λ query. query ≡ spec.query_of schema.now ast.now scope.now texts.now) }
+    ensures { IfOk result (λ query. query ≡ spec.query_of schema.now ast.old scope.now texts.now) }
 {
     let mut captures = Captures::new(alloc);
     let mut query = bare_query(alloc, ast);

@@ -7,7 +7,7 @@ use pgql_print::print_expr;
 use pgql_tree::AstExpr;
 use std::alloc::Global;
 
-/// The text of an expression. A tree whose texts aren't UTF-8 has none, and is answered as want of memory; the
+/// The text of an expression. A tree whose texts aren't UTF-8 has none, and is answered as out of memory; the
 /// parser gives no such tree.
 pub fn printed(alloc: Global, expr: &AstExpr) -> Result<Name, NoMemory>
     ensures { IfOk result (λ name. name ≡ spec.printed expr.now) }

@@ -15,19 +15,20 @@ use literal_texts::add_all_literals;
 use pattern_scope::fault::TypeFault;
 use pattern_scope::scope::{Scope, scope_of};
 use pgql_tree::Ast;
+use sqlite_items::Items;
 use std::alloc::Global;
 use value_text::Texts;
 
 // The query that a tree without faults means, with the texts of its literals added to `texts`.
 fn meaning_of(
     alloc: Global,
-    ast: &Ast,
+    ast: &mut Ast,
     scope: &Scope,
     schema: &Schema,
     texts: &mut Texts,
 ) -> Result<Query, NoMemory>
-    requires { length texts.old + length (spec.all_literals ast.now) < 2 ^ 32 - 1 }
-    ensures ok { IfOk result (λ query. spec.typed_by schema.now texts.old ast.now scope.now None ≡ Ok (query, texts.new)) }
+    requires { length texts.old + length (spec.all_literals ast.old) < 2 ^ 32 - 1 }
+    ensures ok { IfOk result (λ query. spec.typed_by schema.now texts.old ast.old scope.now None ≡ Ok (query, texts.new)) }
     ensures kept { Kept texts.old texts.new }
 {
     add_all_literals(ast, texts)?;
@@ -37,13 +38,13 @@ fn meaning_of(
 // The query that a tree means whose patterns declare this, or its first fault.
 fn typed_in(
     alloc: Global,
-    ast: &Ast,
+    ast: &mut Ast,
     scope: &Scope,
     schema: &Schema,
     texts: &mut Texts,
 ) -> Result<Query, TypeFault>
-    requires { length texts.old + length (spec.all_literals ast.now) < 2 ^ 32 - 1 }
-    ensures { spec.Gives texts.old texts.new result (spec.typed_by schema.now texts.old ast.now scope.now (spec.first_fault schema.now ast.now scope.now)) }
+    requires { length texts.old + length (spec.all_literals ast.old) < 2 ^ 32 - 1 }
+    ensures { spec.Gives texts.old texts.new result (spec.typed_by schema.now texts.old ast.old scope.now (spec.first_fault schema.now ast.old scope.now)) }
 {
     match first_fault(alloc, ast, scope, schema)? {
         Some(fault) => Err(fault),
@@ -54,7 +55,23 @@ fn typed_in(
     }
 }
 
-/// The query that a tree means, with the texts of its literals added to `texts`.
+// The same of its patterns, which are let go of once it is known what they declare.
+fn typed_by_paths(
+    alloc: Global,
+    ast: &mut Ast,
+    schema: &Schema,
+    texts: &mut Texts,
+) -> Result<Query, TypeFault>
+    requires { length texts.old + length (spec.all_literals ast.old) < 2 ^ 32 - 1 }
+    ensures { spec.Gives texts.old texts.new result (spec.typed schema.now texts.old ast.old) }
+{
+    let scope = scope_of(alloc, ast.paths.as_slice())?;
+    ast.paths = Items::new(alloc);
+    typed_in(alloc, ast, &scope, schema, texts)
+}
+
+/// The query that a tree means, with the texts of its literals added to `texts`. The tree's memory is let go of on the
+/// way, so that a query takes no more than the greater of the two.
 ///
 /// The query is well formed (`IsWellFormed`) where the tree has a path, as each tree of the parser has. Its
 /// constants are valid under the texts, so that `value` may take each of its expressions. Each capture of a property
@@ -66,16 +83,16 @@ fn typed_in(
 /// is as before. After `NoMemory` it may have further texts, and all earlier ones keep their numbers.
 pub fn type_query(
     alloc: Global,
-    ast: &Ast,
+    ast: Ast,
     schema: &Schema,
     texts: &mut Texts,
 ) -> Result<Query, TypeFault>
-    requires few { length texts.old + length (spec.all_literals ast.now) < 2 ^ 32 - 1 }
-    ensures exact { spec.Gives texts.old texts.new result (spec.typed schema.now texts.old ast.now) }
-    ensures well_formed { 0 < length ast.now.paths → IfOk result IsWellFormed }
+    requires few { length texts.old + length (spec.all_literals ast) < 2 ^ 32 - 1 }
+    ensures exact { spec.Gives texts.old texts.new result (spec.typed schema.now texts.old ast) }
+    ensures well_formed { 0 < length ast.paths → IfOk result IsWellFormed }
     ensures valid { IfOk result (λ query. All (HasValidConstants texts.new) (expressions query)) }
     ensures kinds { IfOk result (HaveKinds schema.now) }
 {
-    let scope = scope_of(alloc, ast.paths.as_slice())?;
-    typed_in(alloc, ast, &scope, schema, texts)
+    let mut ast = ast;
+    typed_by_paths(alloc, &mut ast, schema, texts)
 }

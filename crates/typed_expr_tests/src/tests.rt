@@ -35,9 +35,9 @@ fn loaded(alloc: Global, store: &mut MemStore) -> Result<(Schema, Texts), NoMemo
     }
 }
 
-fn typed(alloc: Global, ast: &Ast) -> Result<Query, TypeFault> {
+fn typed(alloc: Global, ast: Ast) -> Result<Query, TypeFault> {
     let (schema, mut texts) = loaded(alloc, &mut people(alloc)?)?;
-    if u64::from(texts.len()) + u64::from(literal_count(ast)) < 4294967295 {
+    if u64::from(texts.len()) + u64::from(literal_count(&ast)) < 4294967295 {
         type_query(alloc, ast, &schema, &mut texts)
     } else {
         Err(TypeFault::NoMemory)
@@ -91,7 +91,7 @@ fn numbers_of(alloc: Global, text: &str) -> Result<Option<Numbers>, NoMemory> {
     let Ok(ast) = parse(alloc, text.as_bytes(), 0) else {
         return Ok(None);
     };
-    match typed(alloc, &ast) {
+    match typed(alloc, ast) {
         Ok(query) => Ok(Some(numbers(&query))),
         Err(_) => Ok(None),
     }
