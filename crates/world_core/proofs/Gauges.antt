@@ -1,13 +1,20 @@
 -- Sums over the front of a list, as a loop adds them up.
-use Rattle.std.proofs.Common.{◌≡◌, ℕ, ◌+◌, ◌-◌, ◌*◌, ◌<◌, ◌≤◌, List, [], ◌∷◌, ◌++◌, length, get_or, take, reverse, Option, Some, None, refl, sym, ap, subst, ◌∙◌, arith, add-one, zero, suc}
-use Rattle.std.specs.Prelude.{slice_get, IsSomeAnd}
+use Rattle.std.proofs.Common.{◌≡◌, ℕ, ◌+◌, ◌-◌, ◌*◌, ◌/◌, ◌%◌, ◌<◌, ◌≤◌, true, List, [], ◌∷◌, ◌++◌, length, get_or, take, reverse, Option, Some, None, refl, sym, ap, subst, ◌∙◌, arith, add-one, zero, suc}
+use Rattle.std.specs.Prelude.{slice_get, nat_lt, IsSomeAnd}
+use Rattle.std.proofs.Math.Nat.{mod-lt, div-lt_iff_lt-mul, mul-zero}
+use Rattle.std.proofs.lemmas.Bool.Decides.{nat_tests}
+use Rattle.std.proofs.lemmas.Nat.{div-add-mod'}
 use Rattle.std.proofs.lemmas.List.{reverse-append}
 use Rattle.std.proofs.lemmas.Option.{slice_get_within, get_or_from_slice_get}
 use Rattle.match_context.specs.Bags.{total}
 use Rattle.match_context.proofs.Totals.{total-push}
+use Rattle.match_context.specs.Batch.{Batch}
 use Rattle.match_context.specs.declared.frame.Frame.{Frame}
 use Rattle.match_context.specs.declared.message.Message.{Message}
-use Rattle.world_core.specs.Gauge.{messages_of}
+use Rattle.dfs_worker.specs.Slots.{Slots, slot_of, open_at}
+use Rattle.dfs_worker.specs.Sound.{IsWorker}
+use Rattle.dfs_worker.specs.State.{State}
+use Rattle.world_core.specs.Gauge.{messages_of, in_slot}
 use Rattle.world_core.specs.Owed.{total_below}
 
 pub total-take : {A : Type 0} (f : A → ℕ) (xs : List A) (i : ℕ) (d : A) → i < length xs → total f (take (i + 1) xs) ≡ total f (take i xs) + f (get_or xs i d)
@@ -103,6 +110,37 @@ place-in at a b s m n low one two all = rw (all, ← one, ← two) low
 pub inbox-read : (o : Option (List Message)) (i : ℕ) (m : Message) → IsSomeAnd o (λ ms. slice_get ms i ≡ Some m) → (i < length (messages_of o)) × (m ≡ get_or (messages_of o) i m)
 inbox-read None i m h = absurd h
 inbox-read (Some ms) i m h = (slice_get_within ms i m h, sym (get_or_from_slice_get ms i m m h))
+
+-- the slot of a place is that of its stage and machine
+open-here : (slots : Slots) (stage to : ℕ) → stage < slots.stages → to < slots.machines → open_at slots stage to ≡ get_or slots.messages (slot_of slots.machines stage to) None
+open-here slots stage to k n =
+    let a : nat_lt stage slots.stages ≡ true = grind (arith, nat_tests) in
+    let b : nat_lt to slots.machines ≡ true = grind (arith, nat_tests) in
+    rw (a, b) refl
+
+some-right : (a b n : ℕ) → n < a * b → 0 < b
+some-right a zero n h = let none : a * 0 ≡ 0 = mul-zero a in absurd (omega arith)
+some-right a (suc b) n h = omega arith
+
+slot-at : (slots : Slots) (at : ℕ) → length slots.messages ≡ slots.stages * slots.machines → at < length slots.messages →
+    open_at slots (at / slots.machines) (at % slots.machines) ≡ get_or slots.messages at None
+slot-at slots at places within =
+    let low : at < slots.stages * slots.machines = subst (λ n. at < n) places within in
+    let some = some-right slots.stages slots.machines at low in
+    open-here slots (at / slots.machines) (at % slots.machines) ((div-lt_iff_lt-mul some).1 low) (mod-lt at some)
+    ∙ ap (λ place. get_or slots.messages place None) (div-add-mod' at slots.machines)
+
+pub slot-read : (v : State) (at machines : ℕ) → IsWorker v → at < length v.slots.messages → machines ≡ v.shape.machines →
+    open_at v.slots (at / machines) (at % machines) ≡ get_or v.slots.messages at None
+slot-read v at machines h within same =
+    let places : length v.slots.messages ≡ v.slots.stages * v.slots.machines = rw (h.slots.stages, h.slots.machines) h.slots.places in
+    subst (λ n. open_at v.slots (at / n) (at % n) ≡ get_or v.slots.messages at None) (h.slots.machines ∙ sym same) (slot-at v.slots at places within)
+
+-- what a buffer that is open adds
+pub slot-counts : (number : Message → ℕ) (slot : Option Message) (batch : Batch) (n : ℕ) → ((message : Message) → message.items ≡ batch → number message ≡ n) →
+    IsSomeAnd slot (λ message. message.items ≡ batch) → in_slot number slot ≡ n
+slot-counts number None batch n counts h = absurd h
+slot-counts number (Some message) batch n counts h = counts message h
 
 -- a stack in the other order adds up to the same
 pub stack-sum : (f : Frame → ℕ) (frames stack : List Frame) → reverse frames ≡ stack → total f frames ≡ total f stack

@@ -189,6 +189,31 @@ fn make_inward(worker: &mut Worker, fabric: &mut PlainFabric, event: &Event)
     }
 }
 
+// The change of an event of such a family, which takes no memory.
+fn make_surely<X: Expand>(
+    worker: &mut Worker,
+    fabric: &mut PlainFabric,
+    x: &X,
+    event: &Event,
+    family: Family,
+)
+    requires may { May event.now fabric.old worker.old }
+    requires number { worker.old.number ≡ worker_of event.now }
+    requires fits { Fits (X.tree x.now) fabric.old }
+    requires family { family ≡ family_of event.now }
+    requires surely { family ≡ Family.Answers → ⊥ }
+    ensures own { worker.new ≡ own_part (X.tree x.now) event.now fabric.old worker.old }
+    ensures shared { fabric.new ≡ shared_part event.now worker.old fabric.old }
+{
+    match family {
+        Family::Roots => claim(worker, fabric, x),
+        Family::Answers => {}
+        Family::Alone => make_alone(worker, fabric, event),
+        Family::Outward => make_outward(worker, fabric, event),
+        Family::Inward => make_inward(worker, fabric, event),
+    }
+}
+
 /// The event's change, all of whose guards hold. After `NoMemory`, which only a row may meet, nothing is changed.
 pub fn make<X: Expand>(
     worker: &mut Worker,
@@ -204,11 +229,10 @@ pub fn make<X: Expand>(
     ensures err { OnErr result ((worker.new ≡ worker.old) × (fabric.new ≡ fabric.old) × (event.now ≡ kind.Advance worker.old.number) × AddsRow (X.tree x.now) worker.old.machine worker.old.stack) }
 {
     match family_of(event) {
-        Family::Roots => claim(worker, fabric, x),
-        Family::Answers => worker.advance(x)?,
-        Family::Alone => make_alone(worker, fabric, event),
-        Family::Outward => make_outward(worker, fabric, event),
-        Family::Inward => make_inward(worker, fabric, event),
+        Family::Answers => worker.advance(x),
+        family => {
+            make_surely(worker, fabric, x, event, family);
+            Ok(())
+        }
     }
-    Ok(())
 }

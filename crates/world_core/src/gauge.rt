@@ -1,5 +1,5 @@
 //! How much stands outside the pools.
-ghost use Rattle.std.specs.Prelude.{◌≡◌, ◌+◌, ◌*◌, ◌^◌, ◌<◌, ◌≤◌, ℕ, length, slice_get, slice_index_or, Some, None};
+ghost use Rattle.std.specs.Prelude.{◌≡◌, ◌+◌, ◌*◌, ◌^◌, ◌<◌, ◌≤◌, ℕ, length, slice_get, slice_index_or, IsSomeAnd, MatchOption, Some, None};
 ghost use Rattle.match_context.specs.Bags.{total};
 ghost use Rattle.fabric.specs.Shared.{IsMessageStage, inbox_at};
 ghost use Rattle.dfs_worker.specs.Sound.{IsWorker};
@@ -35,6 +35,17 @@ fn with_buffer(gauge: Gauge, buffer: &Buffer) -> Gauge
 }
 
 // The buffer that is open at a place, if there is one.
+fn open_at(worker: &Worker, at: u32) -> Option<&Buffer>
+    requires worker { IsWorker worker.now }
+    requires at { at < length worker.now.slots.messages }
+    ensures { MatchOption result (slice_index_or worker.now.slots.messages at None ≡ None)
+        (λ b. IsSomeAnd (slice_index_or worker.now.slots.messages at None) (λ m. m.items ≡ b.now)) }
+{
+    let machines = worker.machines();
+    worker.buffer(at / machines, at % machines)
+}
+
+// The same, added to what was counted.
 fn with_slot(gauge: Gauge, worker: &Worker, at: u32) -> Gauge
     requires worker { IsWorker worker.now }
     requires at { at < length worker.now.slots.messages }
@@ -43,8 +54,7 @@ fn with_slot(gauge: Gauge, worker: &Worker, at: u32) -> Gauge
     ensures buffers { result.buffers ≡ gauge.buffers + in_slot one_buffer (slice_index_or worker.now.slots.messages at None) }
     ensures contexts { result.contexts ≡ gauge.contexts + in_slot its_contexts (slice_index_or worker.now.slots.messages at None) }
 {
-    let machines = worker.machines();
-    match worker.buffer(at / machines, at % machines) {
+    match open_at(worker, at) {
         Some(buffer) => with_buffer(gauge, buffer),
         None => gauge,
     }

@@ -1,5 +1,5 @@
 //! The guards of each event that look at what is shared.
-ghost use Rattle.std.specs.Prelude.{◌≡◌, ◌↔◌, IsTrue, Some, None, if◌then◌else◌};
+ghost use Rattle.std.specs.Prelude.{◌≡◌, Some, None, if◌then◌else◌};
 ghost use Rattle.dfs_worker.specs.declared.event.Event.TheVariants as kind;
 ghost use Rattle.dfs_worker.specs.Own.{event_word};
 ghost use Rattle.fabric.specs.Shared.{Shared};
@@ -165,17 +165,5 @@ pub fn first_guard(workers: &[Worker], fabric: &PlainFabric, event: &Event) -> O
     match worker.guard(event) {
         Some(guard) => Some(guard),
         None => shared_guard(fabric, worker, event),
-    }
-}
-
-/// Whether the worker's top has an answer to give now.
-#[inline(always)]
-pub fn may_advance(workers: &[Worker], fabric: &PlainFabric, w: u32) -> bool
-    ensures { IsTrue result ↔ (guard_of (world_of workers.now fabric.now) (kind.Advance w) ≡ None) }
-{
-    let _ = fabric;
-    match workers.get(w as usize) {
-        Some(worker) => worker.may_advance(),
-        None => false,
     }
 }

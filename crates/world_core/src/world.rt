@@ -1,5 +1,5 @@
 //! All workers and what they share, as one value.
-ghost use Rattle.std.specs.Prelude.{◌≡◌, ◌*◌, ◌<◌, ◌≤◌, ◌↔◌, IsTrue, IfOk, OnOk, OnErr, length, slice_get, Some, None};
+ghost use Rattle.std.specs.Prelude.{◌≡◌, ◌*◌, ◌<◌, ◌≤◌, ◌↔◌, IsTrue, IfOk, OnOk, OnErr, [], length, vec_capacity, slice_get, Some, None};
 ghost use Rattle.dfs_worker.specs.declared.event.Event.TheVariants as kind;
 ghost use Rattle.dfs_worker.specs.Sound.{IsWorker};
 ghost use Rattle.world_core.specs.Advances.{AreMade};
@@ -16,7 +16,7 @@ ghost use Rattle.world_core.specs.World.{Fits, world_of, fresh_workers, roots_of
 
 use crate::events::make;
 use crate::gather::take_all;
-use crate::guards::{first_guard, may_advance, worker_of};
+use crate::guards::{first_guard, worker_of};
 use crate::stepped::Stepped;
 use adfs_base::{NoMemory, Shape};
 use dfs_worker::{Event, Guard, Worker};
@@ -146,7 +146,10 @@ impl World {
     pub fn may_advance(&self, w: u32) -> bool
         ensures { IsTrue result ↔ (guard_of self.now (kind.Advance w) ≡ None) }
     {
-        may_advance(&self.workers, &self.fabric, w)
+        match self.workers.get(w as usize) {
+            Some(worker) => worker.may_advance(),
+            None => false,
+        }
     }
 
     /// Makes answers of the worker's top in one go, each an event of its own: some of which nothing comes, and one more. It
@@ -186,11 +189,31 @@ fn roots_of<X: Expand>(alloc: Global, x: &X) -> Result<Vec<u64>, NoMemory>
     ensures roots { IfOk result (λ v. v.items ≡ roots_of (X.tree x.now) (X.tree x.now).machines) }
     ensures count { IfOk result (λ v. length v.items ≡ (X.tree x.now).machines) }
 {
-    let mut roots = Vec::with_capacity(alloc, x.machines() as usize)?;
-    for machine in 0..x.machines() {
-        roots.push(x.roots(machine))?;
+    let machines = x.machines();
+    let mut roots = Vec::with_capacity(alloc, machines as usize)?;
+    for machine in 0..machines {
+        roots.push_reserved(x.roots(machine));
     }
     Ok(roots)
+}
+
+// So many workers at the start, put into the room that there is for them.
+fn add_workers(
+    alloc: Global,
+    workers: &mut Vec<Worker>,
+    shape: &Shape,
+    count: u32,
+) -> Result<(), NoMemory>
+    requires empty { workers.old.items ≡ [] }
+    requires room { count ≤ vec_capacity workers.old }
+    requires within { count ≤ shape.now.machines * shape.now.workers }
+    ensures { OnOk result (workers.new.items ≡ fresh_workers shape.now count) }
+{
+    for w in 0..count {
+        let worker = Worker::new(alloc, w, shape)?;
+        workers.push_reserved(worker);
+    }
+    Ok(())
 }
 
 // All workers at the start.
@@ -200,9 +223,7 @@ fn new_workers(alloc: Global, shape: &Shape) -> Result<Vec<Worker>, NoMemory>
 {
     let count = shape.machines() * shape.workers();
     let mut workers = Vec::with_capacity(alloc, count as usize)?;
-    for w in 0..count {
-        workers.push(Worker::new(alloc, w, shape)?)?;
-    }
+    add_workers(alloc, &mut workers, shape, count)?;
     Ok(workers)
 }
 

@@ -20,7 +20,7 @@ fn if_enabled(world: &World, event: Event) -> Option<Event>
 }
 
 /// The one step of what is in hand.
-fn hand_event(world: &World, w: u32) -> Option<Event>
+pub fn hand_event(world: &World, w: u32) -> Option<Event>
     requires within { w < length world.now.workers }
     ensures some { IfSome result (IsNext world.now w) }
     ensures none { IfNone result (Fails world.now w Attempt.Hand) }
@@ -101,7 +101,7 @@ fn post_event(world: &World, w: u32) -> Option<Event>
 }
 
 /// The pop of a message, of the highest stage that has one.
-fn pop_event(world: &World, w: u32) -> Option<Event>
+pub fn pop_event(world: &World, w: u32) -> Option<Event>
     requires within { w < length world.now.workers }
     ensures some { IfSome result (IsNext world.now w) }
     ensures none { IfNone result (Fails world.now w Attempt.Pop) }

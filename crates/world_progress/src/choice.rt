@@ -7,7 +7,7 @@ ghost use Rattle.world_core.specs.Step.{guard_of};
 ghost use Rattle.world_progress.specs.Choice.{IsNext, AllFail, waiting_list, empty_list};
 ghost use Rattle.world_progress.specs.Stuck.{IsIdle};
 
-use crate::attempts::{child_event, first_of};
+use crate::attempts::{child_event, first_of, hand_event, pop_event};
 use bfs_budget::{Attempt, Policy, choice};
 use dfs_worker::{Event, Hand};
 use match_context::Rest;
@@ -153,4 +153,81 @@ pub fn next_event<P: Policy>(world: &World, policy: &mut P, from: u32) -> Option
         return event;
     }
     first_from(world, policy, 0, from)
+}
+
+/// An enabled event of the worker that a short look finds: what its hand or its top does next, or a message that it takes.
+fn ready_event(world: &World, w: u32) -> Option<Event>
+    requires within { w < length world.now.workers }
+    ensures { IfSome result (IsNext world.now w) }
+{
+    let worker = world.worker(w);
+    if !is_free(worker.hand()) {
+        return hand_event(world, w);
+    }
+    let Some(top) = worker.top() else {
+        return pop_event(world, w);
+    };
+    if is_over(&top.rest) {
+        return Some(Event::Restore { w });
+    }
+    if top.wait.is_none() {
+        return Some(Event::Advance { w });
+    }
+    let event = child_event(world, w);
+    if event.is_some() {
+        return event;
+    }
+    pop_event(world, w)
+}
+
+/// The ready event of the first of these workers that has one.
+fn first_ready(world: &World, from: u32, to: u32) -> Option<Event>
+    requires { to ≤ length world.now.workers }
+    ensures { IfSome result (λ e. guard_of world.now e ≡ None) }
+{
+    for w in from..to {
+        let event = ready_event(world, w);
+        if event.is_some() {
+            return event;
+        }
+    }
+    None
+}
+
+/// An enabled event by which a worker goes on, where a short look at each finds one: of this worker where it has one, else
+/// of the first after it that has, gone round.
+///
+/// Of many workers most have nothing to do, and to be sure of that for one of them takes a look at a word for each two
+/// machines.
+fn ready_from(world: &World, from: u32) -> Option<Event>
+    requires { from ≤ length world.now.workers }
+    ensures { IfSome result (λ e. guard_of world.now e ≡ None) }
+{
+    let count = world.workers().len() as u32;
+    let event = first_ready(world, from, count);
+    if event.is_some() {
+        return event;
+    }
+    first_ready(world, 0, from)
+}
+
+/// The event by which a run goes on: of this worker as the policy chooses, where it has one; else one that a short look at
+/// each worker finds; else the next. None where all stages are closed.
+pub fn event_after<P: Policy>(world: &World, policy: &mut P, from: u32) -> Option<Event>
+    requires { from ≤ length world.now.workers }
+    ensures some { IfSome result (λ e. guard_of world.now e ≡ None) }
+    ensures none { IfNone result (IsFinished world.now) }
+    ensures sound { Sound world.now }
+{
+    if from < world.workers().len() as u32 {
+        let event = worker_event(world, from, policy);
+        if event.is_some() {
+            return event;
+        }
+    }
+    let event = ready_from(world, from);
+    if event.is_some() {
+        return event;
+    }
+    next_event(world, policy, from)
 }

@@ -18,5 +18,6 @@ pub mod laws;
 mod run;
 mod steps;
 
+pub use choice::next_event;
 pub use run::{policy_event, rows_of_tree, run_to_end, some_event};
 pub use steps::Steps;

@@ -10,7 +10,7 @@ ghost use Rattle.world_core.specs.Step.{Run, guard_of};
 ghost use Rattle.world_core.specs.Work.{work_left};
 ghost use Rattle.world_core.specs.World.{Fits};
 
-use crate::choice::next_event;
+use crate::choice::{event_after, next_event};
 use crate::steps::Steps;
 use adfs_base::{NoMemory, Shape};
 use bfs_budget::{Deepest, Policy};
@@ -44,7 +44,7 @@ pub fn some_event<X: Expand>(world: &World, x: &X) -> Option<Event>
 }
 
 /// Makes events until all stages are closed, and counts them. A worker goes on as long as it can, at each event as the
-/// policy chooses; then it is the next one's turn. Where its top has answers to give, nothing is chosen, and those of
+/// policy chooses; then it is the turn of one that has work at hand. Where its top has answers to give, nothing is chosen, and those of
 /// which nothing comes are made in one go.
 ///
 /// The steps are as many as the events, and at most the work that was left. After `NoMemory` the world is one that a run reaches, too.
@@ -70,7 +70,7 @@ pub fn run_to_end<X: Expand, P: Policy, L: Ledger>(
             steps.tick();
             continue 'events;
         }
-        let Some(event) = next_event(world, policy, w) else {
+        let Some(event) = event_after(world, policy, w) else {
             return Ok(());
         };
         w = worker_of(&event);
