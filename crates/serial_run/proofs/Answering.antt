@@ -40,7 +40,5 @@ module _ (over : PlanOverParts) where
       (λ found gives. gives graph led.0 led.1 led.2 job.shown job.meaning job.well) result collects
 
   -- the values of such rows mean something
-  pub shown_by : IsSomeJob over → (rows : List (List Value)) → ((schema : SchemaLists) (graph : PropertyGraph) → IsJob over schema graph → rows ≡ answer_of over.texts graph over.query)
-      → AreShown over.texts rows
-  shown_by some rows is =
-      subst (AreShown over.texts) (sym (is some.schema some.graph some.job)) (answer-shown over.texts some.graph some.job.shown over.query some.job.meaning)
+  pub answer_is_shown : (some : IsSomeJob over) (rows : List (List Value)) → rows ≡ answer_of over.texts some.graph over.query → AreShown over.texts rows
+  answer_is_shown some rows is = subst (AreShown over.texts) (sym is) (answer-shown over.texts some.graph some.job.shown over.query some.job.meaning)

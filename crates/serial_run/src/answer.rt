@@ -75,8 +75,8 @@ pub fn reply_of_rows(
     Ok(text)
 }
 
-// The rows of a tree's query, by a run of the core.
-fn rows_by_core(
+/// The rows of a tree's query, by a run of the core.
+pub fn rows_by_core(
     alloc: Global,
     tree: &PlanTree<'_>,
     texts: &Texts,
@@ -86,7 +86,8 @@ fn rows_by_core(
     requires machines { shape.now.machines ≡ (tree_of (over_of tree.now)).machines }
     requires same { texts.now ≡ (over_of tree.now).texts }
     requires room { words_of (over_of tree.now).query ≤ CONTEXT_WORDS }
-    ensures { (schema : SchemaLists) (graph : PropertyGraph) → IsJob (over_of tree.now) schema graph → IfOk result (λ rows. rows.items ≡ answer_of texts.now graph (over_of tree.now).query) }
+    ensures answer { (schema : SchemaLists) (graph : PropertyGraph) → IsJob (over_of tree.now) schema graph → IfOk result (λ rows. rows.items ≡ answer_of texts.now graph (over_of tree.now).query) }
+    ensures shown { IsSomeJob (over_of tree.now) → IfOk result (λ rows. AreShown texts.now rows.items) }
 {
     let leaves = rows_of_tree(alloc, tree, shape, &mut Deepest)?;
     rows_of_leaves(alloc, tree, texts, leaves)

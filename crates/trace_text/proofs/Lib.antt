@@ -1,6 +1,7 @@
 mod Cuts
 mod Feeds
 mod Files
+pub mod HeaderLines
 mod LineEnds
 pub mod Lines
 mod Numerals

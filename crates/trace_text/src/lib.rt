@@ -12,6 +12,7 @@ mod event_line;
 mod fault;
 mod header;
 mod kind;
+pub mod laws;
 mod number;
 mod said;
 mod written;

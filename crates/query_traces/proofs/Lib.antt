@@ -1,0 +1,2 @@
+mod TakenAgain
+mod Texts
