@@ -66,7 +66,7 @@ module _ (old new : List (List ℕ)) (stay : Kept old new) where
   elements (e ∷ es) shown = (((values_stay old new (value.Text e.label) stay shown.0.0).valid, values e.values shown.0.1), elements es shown.1)
 
 -- a graph goes on to mean what it meant
-values_after : (old new : List (List ℕ)) (schema : SchemaLists) (graph : PropertyGraph) → Kept old new → HasItsValues old schema graph → HasItsValues new schema graph
+pub values_after : (old new : List (List ℕ)) (schema : SchemaLists) (graph : PropertyGraph) → Kept old new → HasItsValues old schema graph → HasItsValues new schema graph
 values_after old new schema graph stay values = record {
   shown = record {
     vertices_shown = elements old new stay graph.vertices values.shown.vertices_shown;

@@ -1,3 +1,4 @@
 pub mod Growing
+pub mod One
 pub mod Steps
 pub mod VerdictFacts

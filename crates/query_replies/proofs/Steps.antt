@@ -17,6 +17,10 @@ pub on_ok : {X E : Type 0} (result : Result X E) (P : Type 0) → P → OnOk res
 on_ok (Ok x) P holds = holds
 on_ok (Err e) P holds = tt
 
+pub on_ok_so : {X E : Type 0} (result : Result X E) (P Q : Type 0) → (P → Q) → OnOk result P → OnOk result Q
+on_ok_so (Ok x) P Q leads holds = leads holds
+on_ok_so (Err e) P Q leads holds = tt
+
 -- a fault that is told leaves the texts as they were
 pub faulty : (schema : SchemaLists) (old new : List (List ℕ)) (tree : Ast) (e : TypeFault) → e ≢ typing.NoMemory → Gives old new (Err e) (typed schema old tree) → (typed schema old tree ≡ Err e) × (new ≡ old)
 faulty schema old new tree (typing.UnknownName at) other gives = gives

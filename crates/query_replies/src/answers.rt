@@ -115,7 +115,8 @@ fn reply_to_text(
     }
 }
 
-fn piece_of<'a>(file: &'a [u8], piece: &(u32, u32)) -> &'a [u8]
+/// The bytes of a file from one place to another.
+pub fn piece_of<'a>(file: &'a [u8], piece: &(u32, u32)) -> &'a [u8]
     requires { LiesBetween 0 (length file.now) piece.now }
     ensures text { result.now ≡ spec.piece_of file.now piece.now }
     ensures length { length result.now ≡ piece.now.1 - piece.now.0 }

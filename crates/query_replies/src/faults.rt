@@ -30,7 +30,7 @@ fn refusal_of_lex(fault: LexFault) -> Result<Refusal, NoMemory>
     }
 }
 
-/// The refusal of a text that has no tree. `NoMemory` where memory was wanting, and only there.
+/// The refusal of a text that has no tree. `NoMemory` where memory ran out, and only there.
 pub fn refusal_of_syntax(fault: SyntaxFault) -> Result<Refusal, NoMemory>
     ensures ok { IfOk result (λ refusal. refusal ≡ spec.refusal_of_syntax fault) }
     ensures named { IfOk result IsNamed }
@@ -45,7 +45,7 @@ pub fn refusal_of_syntax(fault: SyntaxFault) -> Result<Refusal, NoMemory>
     }
 }
 
-/// The refusal of a tree that means nothing. `NoMemory` where memory was wanting, and only there.
+/// The refusal of a tree that means nothing. `NoMemory` where memory ran out, and only there.
 pub fn refusal_of_typing(fault: TypeFault) -> Result<Refusal, NoMemory>
     ensures ok { IfOk result (λ refusal. refusal ≡ spec.refusal_of_typing fault) }
     ensures named { IfOk result IsNamed }

@@ -11,7 +11,8 @@
 
 mod answers;
 mod faults;
+pub mod laws;
 mod reading;
 
-pub use answers::{Asked, Replies, answer_queries};
+pub use answers::{Asked, Replies, answer_queries, piece_of};
 pub use reading::{Verdict, read_query};

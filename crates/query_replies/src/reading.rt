@@ -1,7 +1,9 @@
 //! What comes of a query's text.
 ghost use Rattle.std.specs.Prelude.{◌≡◌, ◌+◌, ◌<◌, ◌↔◌, ◌^◌, ◌-◌, true, IfOk, OnOk, ℕ, List, length};
+ghost use Rattle.graph_tables.specs.Graph.{PropertyGraph};
 ghost use Rattle.pgql_syntax.specs.Places.{IsTree};
 ghost use Rattle.result_collect.specs.Refusals.{IsNamed, refusal_text};
+ghost use Rattle.serial_run.specs.Engines.{HasItsValues};
 ghost use Rattle.typed_expr.specs.Typed.{all_literals};
 ghost use Rattle.typed_expr.specs.WellFormed.{IsWellFormed};
 ghost use Rattle.value_text.specs.Texts.{Kept};
@@ -62,13 +64,13 @@ fn verdict_on_tree(
     schema: &Schema,
     texts: &mut Texts,
     number: u32,
-    ast: &Ast,
+    ast: Ast,
 ) -> Result<Verdict, NoMemory>
-    requires paths { 0 < length ast.now.paths }
-    ensures verdict { (base : ℕ) (text : List ℕ) → IsTree 64 base text ast.now → IfOk result (IsVerdict schema.now number base text texts.old texts.new) }
+    requires paths { 0 < length ast.paths }
+    ensures verdict { (base : ℕ) (text : List ℕ) → IsTree 64 base text ast → IfOk result (IsVerdict schema.now number base text texts.old texts.new) }
     ensures kept { OnOk result (Kept texts.old texts.new) }
 {
-    if !has_numbers(texts, ast) {
+    if !has_numbers(texts, &ast) {
         return Err(NoMemory);
     }
     match type_query(alloc, ast, schema, texts) {
@@ -78,7 +80,8 @@ fn verdict_on_tree(
 }
 
 /// What comes of the text of the query of this number, whose first byte stands at `base` in its file: the query and its
-/// plan, or the line of its refusal. The texts get those of its literals, and all earlier ones keep their numbers.
+/// plan, or the line of its refusal. The texts get those of its literals, and all earlier ones keep their numbers: so a
+/// graph goes on to mean what it meant.
 pub fn read_query(
     alloc: Global,
     schema: &Schema,
@@ -90,12 +93,13 @@ pub fn read_query(
     requires short { base + length text.now < 2 ^ 32 }
     ensures verdict { IfOk result (IsVerdict schema.now number base text.now texts.old texts.new) }
     ensures kept { OnOk result (Kept texts.old texts.new) }
+    ensures values { (graph : PropertyGraph) → HasItsValues texts.old schema.now graph → OnOk result (HasItsValues texts.new schema.now graph) }
 {
     match parse(alloc, text, base) {
         Ok(ast) => {
             // What this promises says that the query is well-formed.
             trees_have_paths();
-            verdict_on_tree(alloc, schema, texts, number, &ast)
+            verdict_on_tree(alloc, schema, texts, number, ast)
         }
         Err(fault) => refused(alloc, number, refusal_of_syntax(fault)?),
     }
