@@ -1,0 +1,6 @@
+mod LoadFacts
+mod MadeKeys
+mod MadeRecords
+mod MadeRows
+mod MadeTables
+mod NumberLines
