@@ -1,10 +1,14 @@
 -- What was put by a run that came to its puts, and by one that didn't.
-use Rattle.std.proofs.Common.{◌≡◌, ℕ, ◌+◌, ◌<◌, ◌++◌, List, [], ◌∷◌, codes, length, length-append, lit<, map, take, slice_index_or, ap, sym, ◌∙◌, Option, Some, None, Result, Ok, Err, IsOk, Bool, IfSome, subst, refl, arith, Global, Vec}
+use Rattle.std.proofs.Common.{◌≡◌, ℕ, ◌+◌, ◌<◌, ◌++◌, List, [], ◌∷◌, codes, length, length-append, lit<, map, take, drop, slice_index_or, ap, sym, ◌∙◌, Option, Some, None, Result, Ok, Err, IsOk, Bool, true, false, ◌⊎◌, inl, inr, IfSome, subst, refl, arith, Global, Vec}
 use Rattle.std.specs.Fmt.{decimal}
 use Rattle.std.specs.List.{flat_map}
 use Rattle.std.proofs.lemmas.List.{get_or-map, length-map, take-map}
 use Rattle.adfs_base.specs.Bytes.{TookFront}
+use Rattle.adfs_base.specs.declared.part_word.PartWord.{PartWord}
+use Rattle.cli_words.specs.declared.command.Command.{Command}
+use Rattle.cli_words.specs.declared.command.Command.TheVariants as command
 use Rattle.cli_words.specs.declared.options.Options.{Options}
+use Rattle.generated_reply.specs.Summary.{made_text}
 use Rattle.graph_tables.specs.Graph.{PropertyGraph}
 use Rattle.graph_tables.specs.Properties.{SchemaLists}
 use Rattle.query_replies.specs.Faults.{refusal_of_planning, refusal_of_syntax, refusal_of_typing}
@@ -17,9 +21,13 @@ use Rattle.result_collect.specs.Replies as reply_texts
 use Rattle.result_collect.specs.Replies.{names_text, row_text}
 use Rattle.result_collect.specs.declared.refusal.Refusal.{Refusal}
 use Rattle.result_collect.specs.declared.refusal.Refusal.TheVariants.{At, NeedsMore, TooWide}
-use Rattle.run_replies.specs.Causes.{FailsAtItsFile, StoreCause, WordsGive}
-use Rattle.run_replies.specs.Outcome.{Answers, Help, IsDoneBy, Plans, Work}
+use Rattle.run_replies.specs.Causes.{FailsAtCommand, FailsAtFile, FailsAtItsFile, FailsAtTrace, FailsNowhere, StoreCause, WordsGive}
+use Rattle.run_replies.specs.Jobs.{Job, schema_of, without_texts}
+use Rattle.run_replies.specs.Outcome.{Answers, Generated, Help, IsDoneBy, Plans, Taken, Traced, Work}
 use Rattle.run_replies.specs.Parts.{IsBeforePuts, RepliesGive}
+use Rattle.run_replies.specs.Traces.{AnswersFirst, IsRefusedBy, IsToldOf, IsTraceOf}
+use Rattle.trace_text.specs.Headers.{header_lines, with_feeds}
+use Rattle.trace_text.specs.declared.header.Header.{Header}
 use Rattle.stage_plan.specs.PlanText as plan_texts
 use Rattle.stage_plan.specs.PlanText.{hop_lines}
 use Rattle.stage_plan.specs.Plans.{Course, plan_of, planned}
@@ -28,7 +36,7 @@ use Rattle.typed_query.specs.declared.query.Query.{Query}
 use Rattle.adfs_top.specs.Puts.{AreFull, EndsPuts, Puts, PutsNothing, Told, TookPart, after_puts}
 use Rattle.run_status.specs.declared.status.Status.{Status}
 use Rattle.run_status.specs.declared.status.Status.TheVariants as variant
-use Rattle.run_status.specs.declared.status.Status.TheVariants.{Done, Limit, Missing, NoMemory, NotBuilt, OwnerFault, ReadFault, SomeRefused, Usage, WriteFault}
+use Rattle.run_status.specs.declared.status.Status.TheVariants.{Done, Limit, Missing, NoMemory, NotBuilt, OwnerFault, ReadFault, ReplayRefused, SomeRefused, Usage, WriteFault}
 
 -- ---- one put after the other
 
@@ -56,8 +64,8 @@ begun x xs = omega arith
 query_begun : (rest : List ℕ) → 0 < length (codes "query " ++ rest)
 query_begun rest = begun 113 (codes "uery " ++ rest)
 
-behind_begun : (front rest : List ℕ) → 0 < length front → 0 < length (front ++ rest)
-behind_begun front rest begins = grind (arith, length-append)
+front_begun : (front rest : List ℕ) → 0 < length front → 0 < length (front ++ rest)
+front_begun front rest begins = grind (arith, length-append)
 
 refused_begun : (number : ℕ) (why : List ℕ) → 0 < length (refusal_texts.refused number why)
 refused_begun number why = query_begun (decimal number ++ (codes " refused " ++ why))
@@ -93,19 +101,51 @@ full_answers answering begins schema file number (place ∷ places) old new (rep
 rows_begun : (graph : PropertyGraph) → IsBegun (rows_over graph)
 rows_begun graph texts number query =
     let rows = answer_of texts graph query in
-    behind_begun (reply_texts.head_text number (length rows)) (names_text query ++ flat_map (row_text texts) rows)
+    front_begun (reply_texts.head_text number (length rows)) (names_text query ++ flat_map (row_text texts) rows)
     (query_begun (decimal number ++ (codes " rows " ++ (decimal (length rows) ++ 10 ∷ []))))
 
 plan_begun : IsBegun plan_in_words
 plan_begun texts number query =
     let plan = plan_of query in
-    behind_begun (plan_texts.head_text number (length plan.stages) plan.words) (hop_lines query 0 plan.hops)
+    front_begun (plan_texts.head_text number (length plan.stages) plan.words) (hop_lines query 0 plan.hops)
     (query_begun (decimal number ++ (codes " stages " ++ (decimal (length plan.stages) ++ (codes " words " ++ (decimal plan.words ++ 10 ∷ []))))))
+
+-- one text alone
+one_full : (text : List ℕ) (replies : List (List ℕ)) → replies ≡ text ∷ [] → 0 < length text → AreFull replies
+one_full text replies are begins = subst AreFull (sym are) (begins, tt)
+
+refused_full : (job : Job) (place : ℕ × ℕ) (line : List ℕ) → IsRefusedBy job place line → 0 < length line
+refused_full job place line refused =
+    let answer = refused.refusal plan_in_words in
+    subst (λ text. 0 < length text) (sym answer.reply_is) (answer_begun plan_in_words refused.texts 1 answer.reading plan_begun)
+
+trace_full : (header : Header) (job : Job) (place : ℕ × ℕ) (text : List ℕ) → IsTraceOf header job place text → 0 < length text
+trace_full header job place text trace =
+    subst (λ text. 0 < length text) (sym trace.trace.text_is)
+    (front_begun (with_feeds (header_lines header)) (trace.trace.run ++ _) (begun 97 (codes "dfs-trace 1" ++ 10 ∷ with_feeds (drop 1 (header_lines header)))))
+
+told_full : (header : Header) (bytes : List ℕ) (job : Job) (place : ℕ × ℕ) (text : List ℕ) → IsToldOf header bytes job place text → 0 < length text
+told_full header bytes job place text told = subst (λ text. 0 < length text) (sym told.text_is) (front_begun (codes "replayed ") _ (begun 114 (codes "eplayed ")))
+
+first_full : (job : Job) (IsDue : ℕ × ℕ → List ℕ → Type 0) → ((place : ℕ × ℕ) (text : List ℕ) → IsDue place text → 0 < length text) → (places : List (ℕ × ℕ)) (replies : List (List ℕ)) (refused : Bool)
+    → AnswersFirst job IsDue places replies refused → AreFull replies
+first_full job IsDue begins [] replies refused done = subst AreFull (sym done.0) tt
+first_full job IsDue begins (place ∷ later) replies refused done = one_full done.0 replies done.1 (by done.2)
+  where
+    by : ((refused ≡ true) × IsRefusedBy job place done.0) ⊎ ((refused ≡ false) × IsDue place done.0) → 0 < length done.0
+    by (inl line) = refused_full job place done.0 line.1
+    by (inr due) = begins place done.0 due.1
 
 full_work : (work : Work) (replies : List (List ℕ)) (refused : Bool) → IsDoneBy work replies refused → AreFull replies
 full_work Help replies refused done = subst AreFull (sym done.0) (lit< tt, tt)
-full_work (Answers job) replies refused done = full_answers (rows_over job.graph) (rows_begun job.graph) job.schema job.file 1 job.places job.texts done.0 replies refused done.1
-full_work (Plans job) replies refused done = full_answers plan_in_words plan_begun job.schema job.file 1 job.places job.texts done.0 replies refused done.1
+full_work (Answers job) replies refused done =
+    full_answers (rows_over (without_texts job.graph)) (rows_begun (without_texts job.graph)) (schema_of job.graph) job.file 1 job.places job.graph.texts done.0 replies refused done.1
+full_work (Plans job) replies refused done = full_answers plan_in_words plan_begun (schema_of job.graph) job.file 1 job.places job.graph.texts done.0 replies refused done.1
+full_work (Traced header job) replies refused done = first_full job (IsTraceOf header job) (trace_full header job) job.places replies refused done
+full_work (Taken header bytes job) replies refused done = first_full job (IsToldOf header bytes job) (told_full header bytes job) job.places replies refused done
+full_work (Generated vertices edges graph) replies refused done =
+    one_full done.text replies done.replies_are (subst (λ text. 0 < length text) (sym done.brief.after)
+    (front_begun (made_text vertices edges) done.brief.rows (front_begun (codes "generated ") _ (begun 103 (codes "enerated ")))))
 
 -- ---- how a run ends
 
@@ -124,6 +164,7 @@ puts_of (ReadFault file) replies outcome old new gives ends = absurd ends
 puts_of (Missing file) replies outcome old new gives ends = absurd ends
 puts_of NoMemory replies outcome old new gives ends = absurd ends
 puts_of (Limit quantity number) replies outcome old new gives ends = absurd ends
+puts_of (ReplayRefused line code guard) replies outcome old new gives ends = absurd ends
 puts_of (NotBuilt what) replies outcome old new gives ends = absurd ends
 
 pub puts_told : {F : Type 0} (files : Option F) (status : Status) (replies : Replies) (outcome : F → Result Work Status) (old new : Told)
@@ -143,6 +184,7 @@ ended (variant.TableFault file row column code cell) outcome old before gives = 
 ended (OwnerFault e) outcome old before gives = (gives, refl)
 ended (Missing file) outcome old before gives = (gives, refl)
 ended (Limit quantity number) outcome old before gives = (gives, refl)
+ended (ReplayRefused line code guard) outcome old before gives = (gives, refl)
 ended (NotBuilt what) outcome old before gives = (gives, refl)
 
 pub ended_told : {F : Type 0} (files : Option F) (status : Status) (outcome : F → Result Work Status) (old : Told)
@@ -169,6 +211,7 @@ ends_store (ReadFault file) replies old new files faults faults_now misses misse
 ends_store (Missing file) replies old new files faults faults_now misses misses_now ends = absurd ends
 ends_store NoMemory replies old new files faults faults_now misses misses_now ends = absurd ends
 ends_store (Limit quantity number) replies old new files faults faults_now misses misses_now ends = absurd ends
+ends_store (ReplayRefused line code guard) replies old new files faults faults_now misses misses_now ends = absurd ends
 ends_store (NotBuilt what) replies old new files faults faults_now misses misses_now ends = absurd ends
 
 pub ends_quiet : (status : Status) (replies : Replies) (old new : Told) → EndsPuts status replies old new → PutsNothing status old new
@@ -182,11 +225,31 @@ ends_quiet (ReadFault file) replies old new ends = absurd ends
 ends_quiet (Missing file) replies old new ends = absurd ends
 ends_quiet NoMemory replies old new ends = absurd ends
 ends_quiet (Limit quantity number) replies old new ends = absurd ends
+ends_quiet (ReplayRefused line code guard) replies old new ends = absurd ends
 ends_quiet (NotBuilt what) replies old new ends = absurd ends
 
+ends_file : (word : PartWord) (status : Status) (replies : Replies) (old new : Told) → EndsPuts status replies old new → FailsAtFile word status
+ends_file word (ReadFault file) replies old new ends = absurd ends
+ends_file word status replies old new ends = tt
+
+ends_trace : (status : Status) (replies : Replies) (old new : Told) → EndsPuts status replies old new → FailsAtTrace status
+ends_trace (ReadFault file) replies old new ends = absurd ends
+ends_trace status replies old new ends = tt
+
+ends_nowhere : (status : Status) (replies : Replies) (old new : Told) → EndsPuts status replies old new → FailsNowhere status
+ends_nowhere (ReadFault file) replies old new ends = absurd ends
+ends_nowhere status replies old new ends = tt
+
+ends_command : (asking : Command) (word : PartWord) (status : Status) (replies : Replies) (old new : Told) → EndsPuts status replies old new → FailsAtCommand asking word status
+ends_command command.Run word status replies old new ends = ends_file word status replies old new ends
+ends_command command.Trace word status replies old new ends = ends_file word status replies old new ends
+ends_command command.Plan word status replies old new ends = ends_file word status replies old new ends
+ends_command command.Replay word status replies old new ends = ends_trace status replies old new ends
+ends_command command.Gen word status replies old new ends = ends_nowhere status replies old new ends
+ends_command command.Help word status replies old new ends = ends_nowhere status replies old new ends
+
 pub ends_place : (words : Result Options Status) (status : Status) (replies : Replies) (old new : Told) → EndsPuts status replies old new → FailsAtItsFile words status
-ends_place (Ok options) (ReadFault file) replies old new ends = absurd ends
-ends_place (Ok options) status replies old new ends = tt
+ends_place (Ok options) status replies old new ends = ends_command options.command options.part status replies old new ends
 ends_place (Err e) (ReadFault file) replies old new ends = absurd ends
 ends_place (Err e) status replies old new ends = tt
 

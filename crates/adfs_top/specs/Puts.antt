@@ -5,8 +5,9 @@ use Rattle.std.specs.Option.{option_map}
 use Rattle.adfs_base.specs.Bytes.{took, TookFront}
 use Rattle.query_replies.specs.declared.answers.Replies.{Replies}
 use Rattle.run_replies.specs.Outcome.{IsDoneBy, Work}
+use Rattle.run_replies.specs.Parts.{Refuses}
 use Rattle.run_status.specs.declared.status.Status.{Status}
-use Rattle.run_status.specs.declared.status.Status.TheVariants.{Done, SomeRefused, ReadFault, WriteFault, NoMemory}
+use Rattle.run_status.specs.declared.status.Status.TheVariants.{Done, SomeRefused, ReadFault, ReplayRefused, WriteFault, NoMemory}
 
 -- what a sink tells: its bytes, and the pieces that it took whole
 abbrev pub Told : Type 0
@@ -36,13 +37,14 @@ PutsAll refused outcome old new = (work : Work) × (replies : List (List ℕ)) �
 abbrev pub PutsFront : Result Work Status → Told → Told → Type 0
 PutsFront outcome old new = (work : Work) × (replies : List (List ℕ)) × (refused : Bool) × (outcome ≡ Ok work) × IsDoneBy work replies refused × AreFull replies × TookPart old replies new
 
--- What is put by a run that comes to this outcome. A read fault and want of memory may come whatever the outcome is.
+-- What is put by a run that comes to this outcome. A read fault and out of memory may come whatever the outcome is.
 abbrev pub Puts : Status → Result Work Status → Told → Told → Type 0
 Puts Done outcome old new = PutsAll false outcome old new
 Puts SomeRefused outcome old new = PutsAll true outcome old new
 Puts WriteFault outcome old new = PutsFront outcome old new
 Puts (ReadFault file) outcome old new = new ≡ old
 Puts NoMemory outcome old new = new ≡ old
+Puts (ReplayRefused line code guard) outcome old new = Refuses outcome (ReplayRefused line code guard) × (new ≡ old)
 Puts status outcome old new = (outcome ≡ Err status) × (new ≡ old)
 
 -- Nothing was put, unless the run came to its writing.

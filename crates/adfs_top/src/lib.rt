@@ -1,17 +1,19 @@
 //! The top call: all that the program does, over a store and a sink that it is handed.
 //!
 //! `adfs_run_serial` asks `run_replies` what is to be put, and puts it. What a run comes to is a function of the words and
-//! files, `outcome_of` of that crate: a graph and a file of queries to be answered or planned, the help text, or the
-//! status that the run ends with. What each query is answered is a definition of the crate `query_replies`, and no loop
-//! stands in it.
+//! files, `outcome_of` of that crate: a graph and a file of queries to be answered, planned or traced, a trace to be taken
+//! again, a graph that was generated, the help text, or the status that the run ends with. What each query is answered is a
+//! definition of the crate `query_replies`, and no loop stands in it.
 //!
 //! Where the store tells its files and the sink its pieces, the call puts exactly those replies on `Done` and
 //! `SomeRefused`, each by a put of its own and none empty; on `WriteFault` some first ones whole and a front of the next;
 //! and nothing on any other status (specs/Puts.antt). A status comes for no other cause than its own
 //! (run_replies/specs/Causes.antt): `Usage`, `NotBuilt`, `TableFault`, `OwnerFault`, `Missing` and `Limit` exactly by
-//! `outcome_of`, `SomeRefused` exactly where a query is refused, a read or write fault only where the store's or the
-//! sink's count of faults rose in the call. A read fault has the number of the manifest, a table or the query file, or of the owner file
-//! where the words name one. Want of memory alone may come at any time.
+//! `outcome_of`, `SomeRefused` exactly where a query is refused, `ReplayRefused` exactly where the trace can't be taken
+//! again, with its line, code and guard; a read or write fault only where the store's or the sink's count of faults rose in
+//! the call. A read fault has the number of the manifest, a table or the query file, or of the owner file where the words
+//! name one; `replay` may name any of these and the trace, and `gen` and `help` read nothing. Out of memory alone may come
+//! at any time.
 #![tactic(auto)]
 
 mod put;

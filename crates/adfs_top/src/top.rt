@@ -17,8 +17,10 @@ use std::alloc::Global;
 ///
 /// `run` answers queries, and `plan` tells how each would be answered. The work goes in this order: the words, the
 /// manifest, the tables, the owner file where one is named, the query file, the queries in their order, and then a put
-/// for each query. `help` puts the help text. The status is that of the first step that doesn't go well; else
-/// `SomeRefused` where a query is refused. Nothing was put unless the run came to the puts.
+/// for each query. `trace` goes the same way with the first query alone, and puts a run of it, event by event, and its
+/// reply. `replay` reads a trace first, and its header says what the rest is on; it puts how the run went. `gen` puts the
+/// summary of a graph that follows from a seed, and `help` the help text. The status is that of the first step that doesn't
+/// go well; else `SomeRefused` where a query is refused. Nothing was put unless the run came to the puts.
 pub fn adfs_run_serial<S: Store, O: Sink>(
     alloc: Global,
     words: &[String],
@@ -33,7 +35,7 @@ pub fn adfs_run_serial<S: Store, O: Sink>(
     // Faults come only where they were met in this call.
     ensures store { StoreCause result (S.files store.old) (S.faults store.old) (S.faults store.new) (S.misses store.old) (S.misses store.new) }
     ensures write { result ≡ Status.WriteFault → Rose (O.faults out.old) (O.faults out.new) }
-    // A read fault names the manifest, a table or the query file, or the owner file where one is named.
+    // A read fault names a file that the command reads.
     ensures place { FailsAtItsFile (accepted (map string_bytes words.now)) result }
 {
     match replies_to(alloc, words, store) {

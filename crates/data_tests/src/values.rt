@@ -32,7 +32,7 @@ fn keys_are_whole_numbers(rt: HostRuntime) -> Result<(), Fail> {
     Ok(())
 }
 
-// What a cell is written back as, behind another cell.
+// What a cell is written back as, after another cell.
 fn written(alloc: Global, kind: Kind, cell: &str) -> Result<Vec<u8>, NoMemory> {
     let mut texts = Texts::new(alloc);
     let mut out = b"x,".to_vec(alloc)?;

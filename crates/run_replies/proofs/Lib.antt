@@ -1,4 +1,9 @@
 pub mod FileFacts
 pub mod JobFacts
+pub mod Limits
+pub mod Places
+pub mod Replays
+pub mod Sizes
 pub mod Steps
+pub mod Tracing
 pub mod WordFacts

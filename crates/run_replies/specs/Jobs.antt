@@ -1,53 +1,58 @@
--- What the queries of a run are answered over.
-use Rattle.std.specs.Prelude.{◌≡◌, ℕ, Bool, List}
+-- What a run is on, and what it is given.
+use Rattle.std.specs.Prelude.{ℕ, List, [], slice_index_or}
 use Rattle.adfs_base.specs.Shape.{Extents}
-use Rattle.cli_words.specs.declared.command.Command.{Command}
-use Rattle.cli_words.specs.declared.command.Command.TheVariants as command
+use Rattle.adfs_base.specs.declared.limits.TheConstants.{BROAD_BUDGET, BUFFER_CONTEXTS, CREDITS, MACHINES, WORKERS}
+use Rattle.cli_words.specs.Ranges.{IsBetween}
 use Rattle.cli_words.specs.declared.options.Options.{Options}
 use Rattle.graph_tables.specs.Graph.{PropertyGraph}
-use Rattle.query_replies.specs.Asked.{IsMeant, answering}
-use Rattle.query_replies.specs.Replies.{AreAnswers}
-use Rattle.query_replies.specs.declared.answers.Asked.{Asked}
-use Rattle.query_replies.specs.declared.answers.Asked.TheVariants.{Plan, Rows}
-use Rattle.serial_run.specs.Engines.{ArePartsOf}
-use Rattle.run_replies.specs.Outcome.{schema_of, without_texts}
-use Rattle.run_replies.specs.declared.job.Loaded.{Loaded}
+use Rattle.graph_tables.specs.Properties.{SchemaLists}
+use Rattle.partition.specs.declared.owner.Owner.{Owner}
+use Rattle.trace_text.specs.declared.header.Header.{Header}
 
--- the numbers that the words say, for a plan of one stage
-abbrev pub shape_of : Options → Extents
-shape_of options = record {
-  machines = options.machines;
-  workers = options.workers;
-  stages = 1;
-  credit = options.credits;
-  broad = options.broad;
-  buffer = options.buffer;
-}
+-- what the words say that a run is on, as the header of its trace would
+abbrev pub header_of : Options → Header
+header_of options =
+    record {
+      manifest = slice_index_or options.files 0 [];
+      queries = slice_index_or options.files 1 [];
+      machines = options.machines;
+      workers = options.workers;
+      credits = options.credits;
+      broad = options.broad;
+      buffer = options.buffer;
+      part = options.part;
+    }
 
--- The command asks that of queries: `plan` their plans, and any other their rows.
-abbrev pub Asks : Command → Asked → Type 0
-Asks command.Plan Plan = Unit {0}
-Asks command.Plan (Rows engine) = ⊥
-Asks other Plan = ⊥
-Asks other (Rows engine) = Unit {0}
+-- Its numbers are within the limits of a run.
+pub record IsInLimits (header : Header) : Type 0 where
+  pub machines : IsBetween 1 MACHINES header.machines
+  pub workers : IsBetween 1 WORKERS header.workers
+  pub credits : IsBetween 1 CREDITS header.credits
+  pub broad : IsBetween 0 BROAD_BUDGET header.broad
+  pub buffer : IsBetween 1 BUFFER_CONTEXTS header.buffer
 
--- Where rows are asked for, the parts are those of the graph.
-abbrev pub GoesOver : PropertyGraph → Asked → Type 0
-GoesOver graph (Rows engine) = ArePartsOf graph engine.shape.machines engine.parts
-GoesOver graph Plan = Unit {0}
+-- its numbers, for so many stages
+abbrev pub shape_of : Header → ℕ → Extents
+shape_of header stages =
+    record {
+      machines = header.machines;
+      workers = header.workers;
+      stages = stages;
+      credit = header.credits;
+      broad = header.broad;
+      buffer = header.buffer;
+    }
 
-pub record AsksOver (asking : Command) (graph : PropertyGraph) (asked : Asked) : Type 0 where
-  pub asks : Asks asking asked
-  pub over : GoesOver graph asked
+-- what a run is given: a graph, who owns its vertices, a query file, and where its queries stand
+pub record Job : Type 0 where
+  pub graph : PropertyGraph
+  pub owner : Owner
+  pub file : List ℕ
+  pub places : List (ℕ × ℕ)
 
--- That is what the queries of a command are answered over, where this graph was loaded.
-pub record IsLoadedOf (asking : Command) (graph : PropertyGraph) (loaded : Loaded) : Type 0 where
-  pub asks : Asks asking loaded.asked
-  pub schema_is : loaded.schema ≡ schema_of graph
-  pub texts_are : loaded.texts ≡ graph.texts
-  pub meant : IsMeant loaded.texts loaded.schema (without_texts graph) loaded.asked
+-- the graph without the texts and the properties that came with it
+abbrev pub without_texts : PropertyGraph → PropertyGraph
+without_texts graph = record { vertices = graph.vertices; edges = graph.edges; texts = []; vertex_properties = []; edge_properties = [] }
 
--- These are the replies to the queries that stand at these places of a file.
-abbrev pub IsAnswered : PropertyGraph → Loaded → List ℕ → List (ℕ × ℕ) → List (List ℕ) → Bool → Type 0
-IsAnswered graph loaded file places replies refused =
-    (texts : List (List ℕ)) × AreAnswers (answering graph loaded.asked) loaded.schema file 1 places loaded.texts texts replies refused
+abbrev pub schema_of : PropertyGraph → SchemaLists
+schema_of graph = record { vertex = graph.vertex_properties; edge = graph.edge_properties }

@@ -1,5 +1,11 @@
+pub mod Asking
 pub mod Causes
+pub mod Firsts
+pub mod Given
 pub mod Jobs
 pub mod Outcome
 pub mod Parts
+pub mod Stores
+pub mod Telling
+pub mod Traces
 pub mod Words

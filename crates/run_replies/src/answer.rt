@@ -1,225 +1,144 @@
-//! The replies of a run.
-ghost use Rattle.std.specs.Prelude.{◌≡◌, ◌≤◌, All, IfErr, IfOk, IfSome, IsOk, Ok, ◌∷◌, [], length, map, slice_index_or};
-ghost use Rattle.std.specs.String.{string_bytes};
-ghost use Rattle.adfs_base.specs.declared.limits.TheConstants.{FILE_BYTES, QUERIES};
-ghost use Rattle.run_replies.specs.Causes.{FailsAtFile, FailsAtItsFile, StoreCause, WordsGive};
-ghost use Rattle.run_replies.specs.Jobs.{IsAnswered, IsLoadedOf};
-ghost use Rattle.run_replies.specs.Outcome.{Help, few_places, outcome_of, schema_of, without_texts, work_of_file, work_of_files, work_of_graph, work_of_text};
-ghost use Rattle.run_replies.specs.Parts.{FailsAt, IsBeforePuts, IsOfFiles, IsOfText, PartGives, RepliesGive};
-ghost use Rattle.run_replies.specs.Words.{accepted};
-ghost use Rattle.run_replies.specs.declared.load.TheConstants.{QUERY_FILE};
-ghost use Rattle.cli_words.specs.Help.{help_text};
-ghost use Rattle.cli_words.specs.Ranges.{IsWithinLimits};
-ghost use Rattle.cli_words.specs.declared.command.Command.{Command};
+//! What the queries of a run are answered, or their plans.
+ghost use Rattle.std.specs.Prelude.{◌≡◌, IfOk, Ok, length, map};
 ghost use Rattle.graph_tables.specs.Graph.{IsWhole, PropertyGraph};
 ghost use Rattle.partition.specs.Owners.{IsOwner};
-ghost use Rattle.pgql_lexer.specs.Pieces.{pieces};
-ghost use Rattle.pgql_lexer.specs.Places.{LiesBetween};
 ghost use Rattle.query_replies.specs.Asked.{IsMeant, IsMeantOfSome};
+ghost use Rattle.run_replies.specs.Asking.{AsksOver, AsksRowsOver, IsAnswered, IsAnswering, IsLoadedOf};
+ghost use Rattle.run_replies.specs.Given.{AreQueries, IsGiven, job_seen};
+ghost use Rattle.run_replies.specs.Jobs.{IsInLimits, without_texts};
+ghost use Rattle.run_replies.specs.Outcome.{IsDoneBy, work_on};
 
-use crate::job::{Loaded, deal_out};
-use crate::load::{QUERY_FILE, load_file, load_owner, load_tables};
-use crate::words::accepted;
-use adfs_base::{NoMemory, QUERIES, Store};
-use cli_words::{Command, Options, usage_text};
-use graph_tables::{Graph, Quantity};
-use partition::Owner;
-use pgql_lexer::cut;
-use query_replies::{Replies, answer_queries};
-use run_status::{Status, passed};
+use crate::job::Given;
+use crate::load::Queries;
+use crate::setup::shape_of;
+use adfs_base::NoMemory;
+use cli_words::Command;
+use graph_tables::{Graph, Schema};
+use partition::{Owner, split};
+use query_replies::{Asked, Replies, answer_queries};
+use run_trace::Header;
+use serial_run::Engine;
 use std::alloc::Global;
+use value_text::Texts;
 
-// Where the queries of a file stand.
-fn places_of(alloc: Global, text: &[u8]) -> Result<Vec<(u32, u32)>, Status>
-    requires { length text.now ≤ FILE_BYTES }
-    ensures gives { PartGives (λ v. v.items) result (few_places (pieces text.now)) }
-    ensures few { IfOk result (λ v. length v.items ≤ QUERIES) }
-    ensures within { IfOk result (λ v. All (LiesBetween 0 (length text.now)) v.items) }
-    ensures status { IfErr result IsOfText }
+/// What is asked of queries, and what came with the graph over which it is asked.
+#[derive(Drop)]
+pub struct Loaded {
+    pub asked: Asked,
+    pub schema: Schema,
+    pub texts: Texts,
+}
+
+// The rows of answers over the parts of the graph, by the numbers of the run.
+fn rows_over(alloc: Global, header: &Header, owner: &Owner, graph: Graph) -> Result<Asked, NoMemory>
+    requires limits { IsInLimits header.now }
+    requires owner { IsOwner owner.now (length graph.vertices) header.now.machines }
+    ensures { IfOk result (AsksRowsOver (without_texts graph)) }
 {
-    match cut(alloc, text) {
-        Ok(places) if (QUERIES as usize) < places.len() => Err(passed(Quantity::Queries)),
-        Ok(places) => Ok(places),
-        Err(_) => Err(Status::NoMemory),
+    // What these two promise bounds the graph and its edges' ends.
+    let _vertices = graph.vertices();
+    let _edges = graph.edges();
+    let parts = split(alloc, graph, owner, header.machines)?;
+    Ok(Asked::Rows(Engine::new(parts, shape_of(header, 1))))
+}
+
+// Plans, which rest on no graph: its memory is given back.
+fn plans_without(graph: Graph) -> Asked
+    ensures { result ≡ Asked.Plan }
+{
+    let _given_back = graph;
+    Asked::Plan
+}
+
+// What a command asks of queries over the graph.
+fn asked_of(
+    alloc: Global,
+    command: Command,
+    header: &Header,
+    owner: &Owner,
+    graph: Graph,
+) -> Result<Asked, NoMemory>
+    requires limits { IsInLimits header.now }
+    requires owner { IsOwner owner.now (length graph.vertices) header.now.machines }
+    ensures { IfOk result (AsksOver command (without_texts graph)) }
+{
+    match command {
+        Command::Plan => Ok(plans_without(graph)),
+        _ => rows_over(alloc, header, owner, graph),
     }
 }
 
-// What the queries are answered that stand at these places of a text.
-fn replies_on(
+// The same with what came with the graph.
+fn loaded_with(
+    asked: Result<Asked, NoMemory>,
+    schema: Schema,
+    texts: Texts,
+) -> Result<Loaded, NoMemory>
+    ensures { IfOk result (λ loaded. (asked ≡ Ok loaded.asked) × (loaded.schema ≡ schema) × (loaded.texts ≡ texts)) }
+{
+    match asked {
+        Ok(asked) => Ok(Loaded {
+            asked,
+            schema,
+            texts,
+        }),
+        Err(_) => Err(NoMemory),
+    }
+}
+
+// What the queries are answered over: the parts of the graph, dealt out so. Its own memory is given back.
+fn deal_out(
     alloc: Global,
-    loaded: &mut Loaded,
-    text: &[u8],
-    places: &[(u32, u32)],
-) -> Result<Replies, NoMemory>
-    requires short { length text.now ≤ FILE_BYTES }
-    requires few { length places.now ≤ QUERIES }
-    requires within { All (LiesBetween 0 (length text.now)) places.now }
+    command: Command,
+    header: &Header,
+    owner: &Owner,
+    mut graph: Graph,
+) -> Result<Loaded, NoMemory>
+    requires limits { IsInLimits header.now }
+    requires owner { IsOwner owner.now (length graph.vertices) header.now.machines }
+    requires whole { IsWhole graph }
+    ensures { IfOk result (IsLoadedOf command graph) }
+{
+    let (schema, texts) = graph.detach();
+    let asked = asked_of(alloc, command, header, owner, graph);
+    loaded_with(asked, schema, texts)
+}
+
+// What the queries are answered.
+fn answer_loaded(alloc: Global, loaded: &mut Loaded, queries: &Queries) -> Result<Replies, NoMemory>
+    requires asked { AreQueries queries.now }
     requires meant { IsMeantOfSome loaded.old.texts loaded.old.schema loaded.old.asked }
-    ensures { (graph : PropertyGraph) → IsMeant loaded.old.texts loaded.old.schema graph loaded.old.asked → IfOk result (λ replies. IsAnswered graph loaded.old text.now places.now (map (λ text. text.items) replies.texts.items) replies.refused) }
+    ensures { (graph : PropertyGraph) → IsMeant loaded.old.texts loaded.old.schema graph loaded.old.asked → IfOk result (λ replies. IsAnswered graph loaded.old queries.now.text.items queries.now.places.items (map (λ text. text.items) replies.texts.items) replies.refused) }
 {
     answer_queries(
         alloc,
         &mut loaded.asked,
         &loaded.schema,
         &mut loaded.texts,
-        text,
-        places,
+        &queries.text,
+        &queries.places,
     )
 }
 
-// What the queries of a text are answered.
-fn answer_text(alloc: Global, loaded: &mut Loaded, text: &[u8]) -> Result<Replies, Status>
-    requires short { length text.now ≤ FILE_BYTES }
-    requires meant { IsMeantOfSome loaded.old.texts loaded.old.schema loaded.old.asked }
-    ensures gives { (asking : Command) (graph : PropertyGraph) → IsLoadedOf asking graph loaded.old → RepliesGive result (work_of_text asking (without_texts graph) (schema_of graph) graph.texts text.now) }
-    ensures status { IfErr result IsOfText }
-{
-    let places = places_of(alloc, text)?;
-    match replies_on(alloc, loaded, text, &places) {
-        Ok(replies) => Ok(replies),
-        Err(_) => Err(Status::NoMemory),
-    }
-}
-
-// What the queries of a file are answered.
-fn answer_file<S: Store>(
+/// What `run` or `plan` puts.
+pub fn answer_given(
     alloc: Global,
-    store: &mut S,
-    options: &Options,
-    loaded: &mut Loaded,
-) -> Result<Replies, Status>
-    requires files { length options.now.files ≡ 2 }
-    requires meant { IsMeantOfSome loaded.old.texts loaded.old.schema loaded.old.asked }
-    ensures gives { (graph : PropertyGraph) → IsLoadedOf options.now.command graph loaded.old → IfSome (S.files store.old) (λ files. RepliesGive result (work_of_file options.now.command files (slice_index_or options.now.files 1 []) (without_texts graph) (schema_of graph) graph.texts)) }
-    ensures faults { S.faults store.old ≤ S.faults store.new }
-    ensures misses { S.misses store.old ≤ S.misses store.new }
-    ensures cause { IfErr result (λ status. StoreCause status (S.files store.old) (S.faults store.old) (S.faults store.new) (S.misses store.old) (S.misses store.new)) }
-    ensures status { IfErr result IsOfFiles }
-    ensures place { IfErr result (FailsAt QUERY_FILE QUERY_FILE) }
+    command: Command,
+    header: &Header,
+    given: Given,
+) -> Result<Replies, NoMemory>
+    requires limits { IsInLimits header.now }
+    requires given { IsGiven header.now given }
+    requires answering { IsAnswering command }
+    ensures { IfOk result (λ replies. IsDoneBy (work_on command header.now (job_seen given)) (map (λ text. text.items) replies.texts.items) replies.refused) }
 {
-    let text = load_file(alloc, store, QUERY_FILE, queries_name(options))?;
-    answer_text(alloc, loaded, &text)
-}
-
-fn manifest_name(options: &Options) -> &str
-    requires { length options.now.files ≡ 2 }
-    ensures { result.now ≡ slice_index_or options.now.files 0 [] }
-{
-    options.files.names()[0].text()
-}
-
-fn queries_name(options: &Options) -> &str
-    requires { length options.now.files ≡ 2 }
-    ensures { result.now ≡ slice_index_or options.now.files 1 [] }
-{
-    options.files.names()[1].text()
-}
-
-// What the queries are answered over a graph whose owner was loaded.
-fn answer_owned<S: Store>(
-    alloc: Global,
-    store: &mut S,
-    options: &Options,
-    owner: &Owner,
-    graph: Graph,
-) -> Result<Replies, Status>
-    requires files { length options.now.files ≡ 2 }
-    requires limits { IsWithinLimits options.now }
-    requires owner { IsOwner owner.now (length graph.vertices) options.now.machines }
-    requires whole { IsWhole graph }
-    ensures gives { IfSome (S.files store.old) (λ files. RepliesGive result (work_of_file options.now.command files (slice_index_or options.now.files 1 []) (without_texts graph) (schema_of graph) graph.texts)) }
-    ensures faults { S.faults store.old ≤ S.faults store.new }
-    ensures misses { S.misses store.old ≤ S.misses store.new }
-    ensures cause { IfErr result (λ status. StoreCause status (S.files store.old) (S.faults store.old) (S.faults store.new) (S.misses store.old) (S.misses store.new)) }
-    ensures status { IfErr result IsOfFiles }
-    ensures place { IfErr result (FailsAt QUERY_FILE QUERY_FILE) }
-{
-    match deal_out(alloc, options, owner, graph) {
-        Ok(mut loaded) => answer_file(alloc, store, options, &mut loaded),
-        Err(_) => Err(Status::NoMemory),
-    }
-}
-
-// What the queries are answered over a graph, whose owner is looked at first.
-fn answer_graph<S: Store>(
-    alloc: Global,
-    store: &mut S,
-    options: &Options,
-    graph: Graph,
-) -> Result<Replies, Status>
-    requires files { length options.now.files ≡ 2 }
-    requires limits { IsWithinLimits options.now }
-    requires whole { IsWhole graph }
-    ensures gives { IfSome (S.files store.old) (λ files. RepliesGive result (work_of_graph options.now files graph)) }
-    ensures faults { S.faults store.old ≤ S.faults store.new }
-    ensures misses { S.misses store.old ≤ S.misses store.new }
-    ensures cause { IfErr result (λ status. StoreCause status (S.files store.old) (S.faults store.old) (S.faults store.new) (S.misses store.old) (S.misses store.new)) }
-    ensures status { IfErr result IsOfFiles }
-    ensures place { IfErr result (FailsAtFile options.now.part) }
-{
-    match load_owner(alloc, store, options, &graph) {
-        Ok(owner) => answer_owned(alloc, store, options, &owner, graph),
-        Err(status) => Err(status),
-    }
-}
-
-// What the queries are answered, over the graph of the tables.
-fn answer_files<S: Store>(
-    alloc: Global,
-    store: &mut S,
-    options: &Options,
-) -> Result<Replies, Status>
-    requires files { length options.now.files ≡ 2 }
-    requires limits { IsWithinLimits options.now }
-    ensures gives { IfSome (S.files store.old) (λ files. RepliesGive result (work_of_files files options.now)) }
-    ensures faults { S.faults store.old ≤ S.faults store.new }
-    ensures misses { S.misses store.old ≤ S.misses store.new }
-    ensures cause { IfErr result (λ status. StoreCause status (S.files store.old) (S.faults store.old) (S.faults store.new) (S.misses store.old) (S.misses store.new)) }
-    ensures status { IfErr result IsOfFiles }
-    ensures place { IfErr result (FailsAtFile options.now.part) }
-{
-    let graph = load_tables(alloc, store, manifest_name(options))?;
-    answer_graph(alloc, store, options, graph)
-}
-
-// The help text alone.
-fn help_texts(alloc: Global) -> Result<Vec<Vec<u8>>, NoMemory>
-    ensures { IfOk result (λ texts. map (λ text. text.items) texts.items ≡ help_text ∷ []) }
-{
-    let texts = vec![in alloc; usage_text(alloc)?]?;
-    Ok(texts)
-}
-
-// What `help` puts.
-fn help(alloc: Global) -> Result<Replies, Status>
-    ensures gives { RepliesGive result (Ok Help) }
-    ensures status { IfErr result IsOfText }
-{
-    match help_texts(alloc) {
-        Ok(texts) => Ok(Replies {
-            texts,
-            refused: false,
-        }),
-        Err(_) => Err(Status::NoMemory),
-    }
-}
-
-/// What the words ask to be put.
-pub fn replies_to<S: Store>(
-    alloc: Global,
-    words: &[String],
-    store: &mut S,
-) -> Result<Replies, Status>
-    ensures gives { IfSome (S.files store.old) (λ files. RepliesGive result (outcome_of (map string_bytes words.now) files)) }
-    ensures accepted { IfOk result (λ _. IsOk (accepted (map string_bytes words.now))) }
-    ensures words { IfErr result (λ status. WordsGive status (accepted (map string_bytes words.now))) }
-    ensures cause { IfErr result (λ status. StoreCause status (S.files store.old) (S.faults store.old) (S.faults store.new) (S.misses store.old) (S.misses store.new)) }
-    ensures status { IfErr result IsBeforePuts }
-    ensures place { IfErr result (FailsAtItsFile (accepted (map string_bytes words.now))) }
-{
-    let options = accepted(alloc, words)?;
-    match options.command {
-        Command::Run | Command::Plan => answer_files(alloc, store, &options),
-        _ => help(alloc),
+    let Given {
+        graph,
+        owner,
+        queries,
+    } = given;
+    match deal_out(alloc, command, header, &owner, graph) {
+        Ok(mut loaded) => answer_loaded(alloc, &mut loaded, &queries),
+        Err(_) => Err(NoMemory),
     }
 }

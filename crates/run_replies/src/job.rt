@@ -1,100 +1,79 @@
-//! What the queries of a run are answered over.
-ghost use Rattle.std.specs.Prelude.{◌≡◌, IfOk, length};
-ghost use Rattle.cli_words.specs.Ranges.{IsWithinLimits};
+//! What a run is given: all that its files say.
+ghost use Rattle.std.specs.Prelude.{◌≡◌, IfOk, IfSome, length};
 ghost use Rattle.graph_tables.specs.Graph.{IsWhole};
 ghost use Rattle.partition.specs.Owners.{IsOwner};
-ghost use Rattle.serial_run.specs.Engines.{ArePartsOf};
-ghost use Rattle.run_replies.specs.Jobs as spec;
-ghost use Rattle.run_replies.specs.Jobs.{AsksOver, IsLoadedOf};
-ghost use Rattle.run_replies.specs.Outcome.{without_texts};
+ghost use Rattle.run_replies.specs.Causes.{FailsAtFile};
+ghost use Rattle.run_replies.specs.Given.{IsGiven, job_seen};
+ghost use Rattle.run_replies.specs.Outcome.{job_of, job_of_graph, job_of_owner};
+ghost use Rattle.run_replies.specs.Parts.{PartGives};
+ghost use Rattle.run_replies.specs.Stores.{ReadsFiles};
 
-use adfs_base::{NoMemory, Shape};
-use cli_words::{Command, Options};
-use graph_tables::{Graph, Schema};
-use partition::{Owner, split};
-use query_replies::Asked;
-use serial_run::Engine;
+use crate::load::{Queries, load_owner, load_queries, load_tables};
+use adfs_base::Store;
+use graph_tables::Graph;
+use partition::Owner;
+use run_status::Status;
+use run_trace::Header;
 use std::alloc::Global;
-use value_text::Texts;
 
-/// What is asked of queries, and what came with the graph over which it is asked.
+/// A graph, who owns its vertices, and the queries that are asked over it.
 #[derive(Drop)]
-pub struct Loaded {
-    pub asked: Asked,
-    pub schema: Schema,
-    pub texts: Texts,
+pub struct Given {
+    pub graph: Graph,
+    pub owner: Owner,
+    pub queries: Queries,
 }
 
-// The numbers that the words say, for a plan of one stage.
-fn shape_of(options: &Options) -> Shape
-    requires { IsWithinLimits options.now }
-    ensures { result ≡ spec.shape_of options.now }
-{
-    Shape::new(
-        options.machines,
-        options.workers,
-        1,
-        options.credits,
-        options.broad,
-        options.buffer,
-    )
-    .unwrap()
-}
-
-// The parts of the graph, with the numbers that the words say.
-fn engine_of(
+// With the queries, where graph and owner were loaded.
+fn load_last<S: Store>(
     alloc: Global,
-    options: &Options,
-    owner: &Owner,
+    store: &mut S,
+    header: &Header,
     graph: Graph,
-) -> Result<Engine, NoMemory>
-    requires limits { IsWithinLimits options.now }
-    requires owner { IsOwner owner.now (length graph.vertices) options.now.machines }
-    ensures { IfOk result (λ engine. ArePartsOf (without_texts graph) engine.shape.machines engine.parts) }
+    owner: Owner,
+) -> Result<Given, Status>
+    requires whole { IsWhole graph }
+    requires owner { IsOwner owner (length graph.vertices) header.now.machines }
+    ensures gives { IfSome (S.files store.old) (λ files. PartGives job_seen result (job_of_owner files header.now graph owner)) }
+    ensures given { IfOk result (IsGiven header.now) }
+    ensures reads { ReadsFiles (FailsAtFile header.now.part) (S.files store.old, S.faults store.old, S.misses store.old) (S.files store.new, S.faults store.new, S.misses store.new) result }
 {
-    // What these two promise bounds the graph and its edges' ends.
-    let _vertices = graph.vertices();
-    let _edges = graph.edges();
-    let parts = split(alloc, graph, owner, options.machines)?;
-    Ok(Engine::new(parts, shape_of(options)))
-}
-
-// What a command asks of queries over the graph. A plan rests on none.
-fn asked_of(
-    alloc: Global,
-    options: &Options,
-    owner: &Owner,
-    graph: Graph,
-) -> Result<Asked, NoMemory>
-    requires limits { IsWithinLimits options.now }
-    requires owner { IsOwner owner.now (length graph.vertices) options.now.machines }
-    ensures { IfOk result (AsksOver options.now.command (without_texts graph)) }
-{
-    match options.command {
-        Command::Plan => Ok(Asked::Plan),
-        _ => Ok(Asked::Rows(engine_of(alloc, options, owner, graph)?)),
+    match load_queries(alloc, store, header.queries.text()) {
+        Ok(queries) => Ok(Given {
+            graph,
+            owner,
+            queries,
+        }),
+        Err(status) => Err(status),
     }
 }
 
-/// What the queries are answered over: the parts of the graph, dealt out so. Its own memory is given back.
-pub fn deal_out(
+// With the owner and the queries, where the graph was loaded.
+fn load_rest<S: Store>(
     alloc: Global,
-    options: &Options,
-    owner: &Owner,
-    mut graph: Graph,
-) -> Result<Loaded, NoMemory>
-    requires limits { IsWithinLimits options.now }
-    requires owner { IsOwner owner.now (length graph.vertices) options.now.machines }
-    requires whole { IsWhole graph }
-    ensures { IfOk result (IsLoadedOf options.now.command graph) }
+    store: &mut S,
+    header: &Header,
+    graph: Graph,
+) -> Result<Given, Status>
+    requires { IsWhole graph }
+    ensures gives { IfSome (S.files store.old) (λ files. PartGives job_seen result (job_of_graph files header.now graph)) }
+    ensures given { IfOk result (IsGiven header.now) }
+    ensures reads { ReadsFiles (FailsAtFile header.now.part) (S.files store.old, S.faults store.old, S.misses store.old) (S.files store.new, S.faults store.new, S.misses store.new) result }
 {
-    let (schema, texts) = graph.detach();
-    match asked_of(alloc, options, owner, graph) {
-        Ok(asked) => Ok(Loaded {
-            asked,
-            schema,
-            texts,
-        }),
-        Err(_) => Err(NoMemory),
+    match load_owner(alloc, store, header, &graph) {
+        Ok(owner) => load_last(alloc, store, header, graph, owner),
+        Err(status) => Err(status),
+    }
+}
+
+/// All that a run is given: the graph of the tables, then who owns its vertices, then the queries.
+pub fn load_given<S: Store>(alloc: Global, store: &mut S, header: &Header) -> Result<Given, Status>
+    ensures gives { IfSome (S.files store.old) (λ files. PartGives job_seen result (job_of files header.now)) }
+    ensures given { IfOk result (IsGiven header.now) }
+    ensures reads { ReadsFiles (FailsAtFile header.now.part) (S.files store.old, S.faults store.old, S.misses store.old) (S.files store.new, S.faults store.new, S.misses store.new) result }
+{
+    match load_tables(alloc, store, header.manifest.text()) {
+        Ok(graph) => load_rest(alloc, store, header, graph),
+        Err(status) => Err(status),
     }
 }

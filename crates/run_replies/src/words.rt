@@ -4,7 +4,7 @@ ghost use Rattle.std.specs.List.{list_any};
 ghost use Rattle.std.specs.Str.{bytes_eq};
 ghost use Rattle.std.specs.String.{string_bytes};
 ghost use Rattle.run_replies.specs.Parts.{IsOfWords, PartGives};
-ghost use Rattle.run_replies.specs.Words.{accepted, is_built};
+ghost use Rattle.run_replies.specs.Words.{IsSized, accepted, is_built};
 ghost use Rattle.cli_words.specs.Files.{HasItsFiles};
 ghost use Rattle.cli_words.specs.Ranges.{IsWithinLimits};
 ghost use Rattle.cli_words.specs.Values.{cut_at};
@@ -36,8 +36,7 @@ fn is_built(command: Command, words: &[String]) -> bool
 {
     match command {
         Command::Run => !is_given("--lanes", words) && !is_given("--pool", words),
-        Command::Plan | Command::Help => true,
-        _ => false,
+        _ => true,
     }
 }
 
@@ -47,6 +46,7 @@ pub fn accepted(alloc: Global, words: &[String]) -> Result<Options, Status>
     ensures gives { PartGives (λ options. options) result (accepted (map string_bytes words.now)) }
     ensures files { IfOk result HasItsFiles }
     ensures limits { IfOk result IsWithinLimits }
+    ensures sizes { IfOk result IsSized }
     ensures status { IfErr result IsOfWords }
 {
     match read_words(alloc, words) {

@@ -6,7 +6,7 @@ use Rattle.graph_tables.specs.declared.faults.Quantity.TheVariants as quantity
 use Rattle.partition.specs.declared.fault.PartFault.{PartFault}
 use Rattle.partition.specs.declared.fault.PartFault.TheVariants as part
 use Rattle.run_status.specs.declared.status.Status.{Status}
-use Rattle.run_status.specs.declared.status.Status.TheVariants.{Done, SomeRefused, Usage, TableFault, OwnerFault, ReadFault, Missing, WriteFault, NoMemory, Limit, NotBuilt}
+use Rattle.run_status.specs.declared.status.Status.TheVariants.{Done, SomeRefused, Usage, TableFault, OwnerFault, ReadFault, Missing, WriteFault, NoMemory, Limit, ReplayRefused, NotBuilt}
 
 abbrev pub status_number : Status → ℕ
 status_number Done = 0
@@ -19,6 +19,7 @@ status_number (Missing file) = 5
 status_number WriteFault = 6
 status_number NoMemory = 7
 status_number (Limit quantity number) = 8
+status_number (ReplayRefused line code guard) = 9
 status_number (NotBuilt what) = 10
 
 abbrev pub quantity_name : Quantity → List ℕ
@@ -70,4 +71,8 @@ status_line (Missing file) = numbered (codes "adfs: file ") file (codes " missin
 status_line WriteFault = codes "adfs: write fault" ++ line_feed
 status_line NoMemory = no_memory_line
 status_line (Limit quantity number) = codes "adfs: limit " ++ (quantity_name quantity ++ numbered (codes " ") number line_feed)
+status_line (ReplayRefused line code guard) =
+    numbered (codes "adfs: line ") line
+    (numbered (codes " refused ") code
+    (numbered (codes " guard ") guard line_feed))
 status_line (NotBuilt what) = numbered (codes "adfs: not built ") what line_feed

@@ -1,4 +1,4 @@
-//! The status of a fault in the manifest, a table or the owner file.
+//! The status of a fault in the manifest, a table, the owner file or a trace.
 ghost use Rattle.std.specs.Prelude.{◌≡◌};
 ghost use Rattle.run_status.specs.Faults as faults;
 ghost use Rattle.run_status.specs.Faults.{refused};
@@ -7,6 +7,7 @@ use crate::limits::passed;
 use crate::status::Status;
 use graph_tables::{Quantity, TableFault, TableKind};
 use partition::PartFault;
+use trace_text::{Guard, ReplayFault};
 use value_text::CellFault;
 
 fn refused(fault: TableFault, code: u32, cell: u32) -> Status
@@ -60,5 +61,54 @@ pub fn status_of_owners(fault: PartFault) -> Status
     match fault {
         PartFault::NoMemory => Status::NoMemory,
         _ => Status::OwnerFault(fault),
+    }
+}
+
+// The number of a guard.
+fn guard_number(guard: Guard) -> u32
+    ensures { result ≡ faults.guard_number guard }
+{
+    match guard {
+        Guard::Worker => 1,
+        Guard::Hand => 2,
+        Guard::Stack => 3,
+        Guard::Child => 4,
+        Guard::Over => 5,
+        Guard::Local => 6,
+        Guard::Room => 7,
+        Guard::Open => 8,
+        Guard::Limit => 9,
+        Guard::Enrolled => 10,
+        Guard::Roots => 11,
+        Guard::Pool => 12,
+        Guard::Inbox => 13,
+        Guard::Above => 14,
+        Guard::Word => 15,
+        Guard::Marks => 16,
+        Guard::Flying => 17,
+    }
+}
+
+/// The status of a trace that can't be taken again.
+pub fn status_of_replay(fault: ReplayFault) -> Status
+    ensures { result ≡ faults.status_of_replay fault }
+{
+    match fault {
+        ReplayFault::BadLine(line) => Status::ReplayRefused {
+            line,
+            code: 60,
+            guard: 0,
+        },
+        ReplayFault::NotEnabled(line, guard) => Status::ReplayRefused {
+            line,
+            code: 61,
+            guard: guard_number(guard),
+        },
+        ReplayFault::NotFinished => Status::ReplayRefused {
+            line: 0,
+            code: 62,
+            guard: 0,
+        },
+        ReplayFault::NoMemory => Status::NoMemory,
     }
 }

@@ -9,7 +9,7 @@ use partition::PartFault;
 use std::alloc::{AllocError, Global};
 
 /// How a run ended. Files are numbered: 0 the manifest, then the tables in its order from 1, 257 the query
-/// file, and 259 the owner file.
+/// file, 258 the trace that is taken again, and 259 the owner file.
 #[derive(Clone, Copy, Debug, PartialEq, Eq)]
 pub enum Status {
     /// All went well: each query was answered, and all replies were put whole.
@@ -50,6 +50,14 @@ pub enum Status {
     Limit {
         quantity: Quantity,
         number: u64,
+    },
+    /// The trace can't be taken again. The code is 60 for a line that isn't of the form that its place asks for, 61 for an
+    /// event of which a guard fails, and 62 where the text ends, or says `finished`, before the run is. The line counts from
+    /// 1 and is 0 for the code 62. The guard is 1 to 17 for the code 61, and else 0.
+    ReplayRefused {
+        line: u32,
+        code: u32,
+        guard: u32,
     },
     /// The words ask for what isn't built yet. It is 1000: one of the commands `trace`, `replay` and `gen`, or an option
     /// `--lanes` or `--pool`.
@@ -98,7 +106,8 @@ fn owner_line(alloc: Global, fault: PartFault) -> Result<String, AllocError>
 
 impl Status {
     /// The number with which the program ends: 0 `Done`, 1 `SomeRefused`, 2 `Usage`, 3 `TableFault` and
-    /// `OwnerFault`, 4 `ReadFault`, 5 `Missing`, 6 `WriteFault`, 7 `NoMemory`, 8 `Limit`, 10 `NotBuilt`.
+    /// `OwnerFault`, 4 `ReadFault`, 5 `Missing`, 6 `WriteFault`, 7 `NoMemory`, 8 `Limit`, 9 `ReplayRefused`,
+    /// 10 `NotBuilt`.
     pub fn number(&self) -> u32
         ensures { result ≡ status_number self.now }
     {
@@ -112,6 +121,7 @@ impl Status {
             Status::WriteFault => 6,
             Status::NoMemory => 7,
             Status::Limit { .. } => 8,
+            Status::ReplayRefused { .. } => 9,
             Status::NotBuilt { .. } => 10,
         }
     }
@@ -142,6 +152,9 @@ impl Status {
             Status::Limit { quantity, number } => {
                 let name = quantity_name(*quantity);
                 format!(in alloc; "adfs: limit {name} {number}\n")
+            }
+            Status::ReplayRefused { line, code, guard } => {
+                format!(in alloc; "adfs: line {line} refused {code} guard {guard}\n")
             }
             Status::NotBuilt { what } => format!(in alloc; "adfs: not built {what}\n"),
         }

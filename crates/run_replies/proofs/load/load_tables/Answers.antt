@@ -1,5 +1,10 @@
-use Rattle.run_replies.proofs.Steps.{place_of_fault}
+use Rattle.run_replies.specs.Parts.{FailsAt}
+use Rattle.run_replies.proofs.Places.{reads_fault}
+use Rattle.run_replies.proofs.Steps.{reads_ok}
 use Rattle.run_replies.proofs.load.load_tables.Goals as goal
 
-pub returns-in-Err-clause-place : goal.returns-in-Err-clause-place
-returns-in-Err-clause-place g c = rw c.status_of.ensures (place_of_fault 0 256 c.in-Err.fault c.in-Err.ensures.place)
+pub returns-in-Ok-clause-reads : goal.returns-in-Ok-clause-reads
+returns-in-Ok-clause-reads g c = reads_ok (FailsAt 0 256) _ _ c.in-Ok.graph c.in-Ok.ensures.kept c.in-Ok.ensures.cause.faults_stay c.in-Ok.ensures.cause.misses_stay
+
+pub returns-in-Err-clause-reads : goal.returns-in-Err-clause-reads
+returns-in-Err-clause-reads g c = reads_fault c.in-Err.fault c.status_of.result _ _ c.status_of.ensures c.in-Err.ensures.kept c.in-Err.ensures.cause c.in-Err.ensures.place
