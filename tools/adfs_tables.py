@@ -43,7 +43,7 @@ def type_of(cells):
 
 
 def distinct(names, taken):
-    """The names, each with a number behind it where it would stand a second time among them and those that are taken."""
+    """The names, each with a number after it where it would stand a second time among them and those that are taken."""
     seen, found = set(taken), []
     for name in names:
         whole, number = name, 1

@@ -55,6 +55,32 @@ CELL_RULES = {
     25: 'a record has as many cells as the header',
 }
 
+REPLAY_RULES = {
+    60: 'a line says one step, and the first five lines say what the trace is of',
+    61: 'a step may happen where all of its guards hold',
+    62: "the line 'finished' comes when all stages are closed",
+}
+
+GUARD_RULES = {
+    1: 'a worker that there is',
+    2: 'the hand as the step finds it: empty for most, else what the step before left in it',
+    3: 'a stack that has a top, or an empty one',
+    4: 'a child that waits, or none',
+    5: "a top that isn't over, or the frame of a message that is",
+    6: 'a waiting child of its own machine',
+    7: 'room in the open buffer',
+    8: 'an open buffer, or none',
+    9: "a credit that isn't in use",
+    10: "a worker that hasn't retired",
+    11: 'a root that nobody claimed, or none of these',
+    12: 'a buffer in the pool',
+    13: 'room in the inbox, or a message in it',
+    14: "a message of a later stage than the top's",
+    15: "a counter that is 0 and isn't marked",
+    16: "all counters of the stage marked, and a stage that isn't closed",
+    17: 'a message of that stage that is on its way',
+}
+
 LIMIT_RULES = {
     'FileBytes': 'a file has at most 268,435,456 bytes',
     'TotalBytes': 'all tables together have at most 1,073,741,824 bytes',
