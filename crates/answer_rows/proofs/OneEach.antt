@@ -67,7 +67,7 @@ module _ {X : Type 0} (order : X → X → Ordering) (total : IsTotalOrder order
       turned k y Greater (same_to_k ∙ turned x k Less less)
   behind_by k y x behind less Greater is = let back : order y x ≡ Less = turned y x Greater is in absurd (cc (back, behind))
 
-  -- what stands behind something that k comes before is not the same as k
+  -- what stands after something that k comes before is not the same as k
   none_same : (z k x : X) → same z k ≡ true → order k x ≡ Less → (ys : List X) → AllByRecursion (λ y. before_by order y x ≡ false) ys → filter (same z) ys ≡ []
   none_same z k x is less [] behind = refl
   none_same z k x is less (y ∷ ys) behind =

@@ -54,7 +54,7 @@ module _ (command : Command) (rows : List Row) where
   pub settles_at_once : (h : Held) → h ≡ only_rows rows → Settles command rows h
   settles_at_once h is = rw is (record { settles = refl; passes = refl })
 
-  -- an option with its value behind it
+  -- an option with its value after it
   pub given_held : (s : Setting) (text : Text) (h : Held) → Settles command rows h → has_row (long_name s) rows ≡ false
       → reacted (built_rules command) (built_option s) (text ∷ []) h ≡ only_rows (rows ++ row (long_name s) text ∷ [])
   given_held s text h held lacks =

@@ -16,7 +16,7 @@ pub record Turns (s : Shape) (w : Walk) (word : Text) (after : Walk) : Type 0 wh
   pub goes : walked s.rules [] w word ≡ after
 
 module _ (s : Shape) (h : Held) (p : ℕ) (word : Text) (a : Rule) where
-  -- an option with its value behind it
+  -- an option with its value after it
   pub given_turn : (name value : Text) → IsLongWord word name (Some value) → arg_by_long s.rules name ≡ Some a → takes_values a ≡ true
       → option_passes s.rules s.args_override_self a (Some value) h ≡ true
       → Turns s (between h idle p) word (between (reacted s.rules a (value ∷ []) h) idle p)

@@ -15,7 +15,7 @@ use Rattle.cli_words.specs.declared.setting.Setting.{Setting}
 abbrev pub read_value : Setting → List ℕ → Said → Option Said
 read_value setting word said = option_map (λ options. record said { options = options; awaited = None }) (with_setting setting word said.options)
 
--- the word names this option; its value stands behind an equals sign, or is the next word
+-- the word names this option; its value stands after an equals sign, or is the next word
 abbrev pub read_named : Option (List ℕ) → Setting → Said → Option Said
 read_named None setting said = Some (record said { awaited = Some setting })
 read_named (Some value) setting said = read_value setting value said

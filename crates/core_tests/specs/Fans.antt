@@ -37,7 +37,7 @@ ahead_by true last fan context place = items_from fan.machines (fan.children - p
 ahead_by false true fan context place = one_leaf (place == 0) context
 ahead_by false false fan context place = []
 
--- the place behind, where there is one
+-- the place after, where there is one
 abbrev pub place_if : Bool → ℕ → ℕ
 place_if more place = if more then place + 1 else place
 

@@ -51,7 +51,8 @@ ended-stack shape enrolled machine tree frame frames (rest.Roots next end) low w
     go false = below
 ended-stack shape enrolled machine tree frame frames (rest.Items message next over) low w o h below = go (nat_lt next (length message.items.items)) refl
   where
-    go : (b : Bool) → nat_lt next (length message.items.items) ≡ b → IsStack shape enrolled machine (onto (cond b (Some (record frame { context = get_or message.items.items next frame.context; place = 0; rest = rest.Items message (next + 1) over })) (Some (record frame { rest = rest.Items message next true }))) frames)
+    go : (b : Bool) → nat_lt next (length message.items.items) ≡ b
+        → IsStack shape enrolled machine (onto (cond b (Some (record frame { context = get_or message.items.items next frame.context; place = 0; rest = rest.Items message (next + 1) over })) (Some (record frame { rest = rest.Items message next true }))) frames)
     go true e =
         let lt : next < length message.items.items = grind (arith, nat_tests) in
         rw w (

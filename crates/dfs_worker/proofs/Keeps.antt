@@ -17,7 +17,37 @@ use Rattle.dfs_worker.specs.declared.guard.Guard.TheVariants as guard
 use Rattle.dfs_worker.specs.declared.hand.Hand.{Hand}
 use Rattle.dfs_worker.specs.declared.hand.Hand.TheVariants.{Free, Charged, Posted, Popped, Emptied}
 use Rattle.dfs_worker.specs.Guards.{own_guard}
-use Rattle.dfs_worker.specs.Own.{root_frame, claimed, retired, child_frame, descended, descended_at, descended_by, appended, appended_at, appended_by, charged, charged_for, opened_with, fetched, fetched_by, fetched_at, fetched_for, posted, posted_by, freed, popped, message_frame, picked, picked_by, restored, restored_at, restored_by, marked, moved}
+use Rattle.dfs_worker.specs.Own.{
+  root_frame,
+  claimed,
+  retired,
+  child_frame,
+  descended,
+  descended_at,
+  descended_by,
+  appended,
+  appended_at,
+  appended_by,
+  charged,
+  charged_for,
+  opened_with,
+  fetched,
+  fetched_by,
+  fetched_at,
+  fetched_for,
+  posted,
+  posted_by,
+  freed,
+  popped,
+  message_frame,
+  picked,
+  picked_by,
+  restored,
+  restored_at,
+  restored_by,
+  marked,
+  moved,
+}
 use Rattle.dfs_worker.specs.Slots.{Slots, slot_of, open_at, is_open, has_room, room_in, with_slot, with_context, added, added_to}
 use Rattle.dfs_worker.specs.Sound.{IsPacket, IsThrough, StandsOn, IsStack, IsOpenAt, AreSlots, IsHand, IsWorker}
 use Rattle.dfs_worker.specs.State.{State, next_stage, waiting}

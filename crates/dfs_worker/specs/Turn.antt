@@ -450,7 +450,8 @@ pub record Fits {F : Type 0} (agrees : F → ℕ → Holding → Type 0) (shape 
   pub agreed : agrees f v.number holding
 
 -- what one or more tries answer, after which the worker fits again
-pub record Tried {F : Type 0} (agrees : F → ℕ → Holding → Type 0) (done : F → ℕ → Call → Given → F → Type 0) (excused : F → ℕ → Call → F → Type 0) (shape : F → Extents) (roots : F → ℕ → ℕ) (tree : Tree) (v : State) (f : F) (tries : List Try) (turn : Turn) (v' : State) (f' : F) : Type 0 where
+pub record Tried {F : Type 0} (agrees : F → ℕ → Holding → Type 0) (done : F → ℕ → Call → Given → F → Type 0)
+    (excused : F → ℕ → Call → F → Type 0) (shape : F → Extents) (roots : F → ℕ → ℕ) (tree : Tree) (v : State) (f : F) (tries : List Try) (turn : Turn) (v' : State) (f' : F) : Type 0 where
   pub answered : IsTurn done excused tree v f tries turn v' f'
   pub fits : Fits agrees shape roots tree v' f'
 

@@ -1,5 +1,41 @@
 -- Flags as bits.
-use Rattle.std.proofs.Common.{take, min, ◌≡◌, ◌≢◌, ◌∙◌, sym, ap, refl, arith, ◌<◌, ◌≤◌, ◌+◌, ◌*◌, ◌/◌, ◌%◌, ℕ, zero, suc, List, [], ◌∷◌, ◌++◌, length, get_or, slice_get, set, get_or-set_other, get_or-set_same, add-one, Some, ◌==◌, length-append, inl, inr, ◌⊎◌}
+use Rattle.std.proofs.Common.{
+  take,
+  min,
+  ◌≡◌,
+  ◌≢◌,
+  ◌∙◌,
+  sym,
+  ap,
+  refl,
+  arith,
+  ◌<◌,
+  ◌≤◌,
+  ◌+◌,
+  ◌*◌,
+  ◌/◌,
+  ◌%◌,
+  ℕ,
+  zero,
+  suc,
+  List,
+  [],
+  ◌∷◌,
+  ◌++◌,
+  length,
+  get_or,
+  slice_get,
+  set,
+  get_or-set_other,
+  get_or-set_same,
+  add-one,
+  Some,
+  ◌==◌,
+  length-append,
+  inl,
+  inr,
+  ◌⊎◌,
+}
 use Rattle.std.proofs.lemmas.Bool.{cases_lt}
 use Rattle.std.proofs.lemmas.List.{get_or-take, get_or_append_left, length-take-le, take-append-le, take_all}
 use Rattle.std.specs.Int.{bit_at}
@@ -60,7 +96,7 @@ flags_set words w i inside others = flags_same (set words (i / 64) w) words i be
             let ne : j % 64 ≢ i % 64 = omega arith in
             rw (e, get_or-set_same words (i / 64) w 0 inside, others (j % 64) (omega arith) ne) refl
 
--- words behind those of the first n flags don't matter
+-- words after those of the first n flags don't matter
 pub flags_front : (words : List ℕ) (k n : ℕ) → n ≤ 64 * k → flags (take k words) n ≡ flags words n
 flags_front words k n h = flags_same (take k words) words n (λ i less.
     let inside : i / 64 < k = omega arith in

@@ -54,7 +54,7 @@ impl Cells {
         }
     }
 
-    /// Adds a word at the end. After want of memory nothing has changed.
+    /// Adds a word at the end. After running out of memory nothing has changed.
     pub(crate) fn push(&mut self, word: Option<u64>) -> Result<(), AllocError>
         ensures ok { OnOk result (self.new ≡ self.old ++ word ∷ []) }
         ensures err { OnErr result (self.new ≡ self.old) }

@@ -69,7 +69,7 @@ impl Columns {
         }
     }
 
-    /// Adds a column of a property that has none yet. After want of memory nothing has changed.
+    /// Adds a column of a property that has none yet. After running out of memory nothing has changed.
     pub fn push(&mut self, property: u32, kind: Kind) -> Result<(), AllocError>
         requires { column_of self.old property ≡ None }
         ensures ok { OnOk result (self.new ≡ self.old ++ (property, kind) ∷ []) }

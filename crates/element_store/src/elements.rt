@@ -127,7 +127,7 @@ impl Elements {
         value_at(&self.tables, number, property)
     }
 
-    /// Begins the next table. After want of memory nothing has changed.
+    /// Begins the next table. After running out of memory nothing has changed.
     pub fn begin_table(
         &mut self,
         alloc: Global,
@@ -151,7 +151,7 @@ impl Elements {
         self.keys.reserve(elements)
     }
 
-    /// Adds an element to the last table. After want of memory nothing has changed.
+    /// Adds an element to the last table. After running out of memory nothing has changed.
     pub fn add(&mut self, key: i64, values: &[Value]) -> Result<(), AllocError>
         requires table { 0 < self.old.tables }
         requires fresh { number_of self.old.elements key ≡ None }

@@ -76,7 +76,7 @@ impl Table {
         &self.columns
     }
 
-    /// Adds a row of values, one for each column. After want of memory nothing has changed.
+    /// Adds a row of values, one for each column. After running out of memory nothing has changed.
     pub(crate) fn push(&mut self, values: &[Value]) -> Result<(), AllocError>
         requires kinds { HaveKinds self.old.columns values.now }
         requires few { length self.old.rows < 2 ^ 32 - 1 }

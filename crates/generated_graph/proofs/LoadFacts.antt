@@ -18,7 +18,7 @@ module _ (due : Result PropertyGraph TableFault) (loads : IsOk due) where
       by (Ok graph) ok f = absurd cc
       by (Err why) ok f = cc ok
 
-  -- of all faults, want of memory is left
+  -- of all faults, running out of memory is left
   fault_left : (e : TableFault) (what : TableKind) → e.kind ≡ what → LoadsFault e what due → (e.kind ≡ kind.ReadFault → Rose 0 0) → e.kind ≡ kind.NoMemory
   fault_left e kind.NoMemory is fault rose = is
   fault_left e kind.ReadFault is fault rose = absurd (omega (arith, rose is))

@@ -79,7 +79,7 @@ abbrev pub in_column : Place → ℕ → Reading → Result (Value × List (List
 in_column at column (Ok v) = Ok v
 in_column at column (Err f) = Err (fault_at at column (kind.BadCell f))
 
--- the values of the cells from this column on, behind those before
+-- the values of the cells from this column on, after those before
 unfoldable pub values_from : Place → ℕ → List Column → List (List ℕ) → Read → Result Read TableFault
 values_from at column [] cells before = Ok before
 values_from at column (c ∷ cs) [] before = Ok before

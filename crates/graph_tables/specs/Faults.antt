@@ -19,7 +19,7 @@ abbrev pub ◌>>=◌ : {A B : Type 0} → Result A TableFault → (A → Result 
 (Ok x) >>= f = f x
 (Err e) >>= f = Err e
 
--- The fault is the definition's. Want of memory has no place, and the store's own faults don't come.
+-- The fault is the definition's. Running out of memory has no place, and the store's own faults don't come.
 abbrev pub GivesFault : {X : Type 0} → TableFault → TableKind → Result X TableFault → Type 0
 GivesFault e kind.NoMemory given = e ≡ fault_of 0 kind.NoMemory
 GivesFault e kind.ReadFault given = ⊥
@@ -37,7 +37,7 @@ abbrev pub Gives : {X Y : Type 0} → (Y → X) → Result Y TableFault → Resu
 Gives view (Ok y) given = given ≡ Ok (view y)
 Gives view (Err e) given = GivesFault e e.kind given
 
--- The fault is the definition's. Want of memory has no place, and a load that failed has its file alone.
+-- The fault is the definition's. Running out of memory has no place, and a load that failed has its file alone.
 abbrev pub LoadsFault : {X : Type 0} → TableFault → TableKind → Result X TableFault → Type 0
 LoadsFault e kind.NoMemory given = e ≡ fault_of 0 kind.NoMemory
 LoadsFault e kind.ReadFault given = e ≡ fault_of e.file kind.ReadFault

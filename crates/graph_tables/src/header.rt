@@ -174,7 +174,7 @@ fn add_column(
     Ok(true)
 }
 
-// Adds the columns of the cells behind the keys.
+// Adds the columns of the cells after the keys.
 fn take_columns(
     alloc: Global,
     of: ElementKind,

@@ -24,7 +24,7 @@ pub(crate) fn is_name(bytes: &[u8]) -> bool
     }
 }
 
-/// The bytes behind a place.
+/// The bytes after a place.
 pub(crate) fn behind(text: &[u8], place: usize) -> &[u8]
     requires { place < length text.now }
     ensures { result.now ≡ drop (place + 1) text.now }

@@ -36,7 +36,7 @@ answer-drop f [] (suc p) = refl
 answer-drop f (x ∷ xs) zero = answer-head (f x) (map f xs)
 answer-drop f (x ∷ xs) (suc p) = answer-drop f xs p
 
--- a place is left behind where there is an answer
+-- a place is left after where there is an answer
 pub if_any-answer : {X : Type 0} (is : List Item) (none some : X) → if_any is none some ≡ after_answer (answer is) none some
 if_any-answer [] none some = refl
 if_any-answer (Below context machine ∷ is) none some = refl

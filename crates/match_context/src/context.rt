@@ -24,7 +24,7 @@ impl Context {
         (self.words[1 + variable] % 4_294_967_296) as u32
     }
 
-    /// The word of a captured value, which stands behind those of so many variables. `None` is null.
+    /// The word of a captured value, which stands after those of so many variables. `None` is null.
     pub fn captured(&self, variables: usize, capture: usize) -> Option<u64>
         requires { 1 + variables + capture < CONTEXT_WORDS }
         ensures { result ≡ captured_in self.now.words variables capture }

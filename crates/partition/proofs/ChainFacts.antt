@@ -70,7 +70,7 @@ none_yet out edges v n = rw (drop_all (length edges) edges (omega arith)) refl
 
 -- ---- a chain that is walked
 
--- what is left of a chain: from this number on these edges, whose links come behind those of the list
+-- what is left of a chain: from this number on these edges, whose links come after those of the list
 pub record Walks (next owners : List ℕ) (out : Bool) (edges : List Edge) (whole : List Link) (at : ℕ) (list : List Link) (rest : List (ℕ × Edge)) : Type 0 where
   pub chain : IsChain next at rest
   pub known : AllByRecursion (λ e. (e.0 < length edges) × (e.1 ≡ slice_index_or edges e.0 no_edge)) rest
@@ -126,7 +126,7 @@ module _ (next owners : List ℕ) (out : Bool) (edges : List Edge) (whole : List
       let long = length-append list (map (link_of owners out) (e ∷ es)) in
       record { known = rw walk.chain.0 walk.known.0.0; within = walk.chain.1; short = omega (arith, size, long) }
 
-  -- what is left behind this edge
+  -- what is left after this edge
   pub walk_on : (rest : List (ℕ × Edge)) → at ≢ no_number → Walks next owners out edges whole at list rest
       → (es : List (ℕ × Edge)) × Walks next owners out edges whole (slice_index next at) (list ++ link_of owners out (at, slice_index_or edges at no_edge) ∷ []) es
   walk_on [] more walk = absurd (more walk.chain)

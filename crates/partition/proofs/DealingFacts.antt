@@ -33,7 +33,7 @@ range_next a (suc n) = let shift : (a + 1) + n ≡ a + suc n = omega arith in ap
 pub range_more : (n : ℕ) → range_with_len 0 (n + 1) ≡ range_with_len 0 n ++ n ∷ []
 range_more n = let same : 0 + n ≡ n = omega arith in rw (add-one n) (rw same at (range_next 0 n))
 
--- the first place of two lists, one behind an item
+-- the first place of two lists, one after an item
 pub position_cons : {X : Type 0} (p : X → Bool) (x : X) (xs : List X) → position p (x ∷ xs) ≡ cond (p x) (Some 0) (option_map suc (position p xs))
 position_cons {X} p x xs = by (p x) (nat_lt (position_or_len p xs) (length xs)) refl
   where

@@ -8,7 +8,7 @@ abbrev pub ◌>>=◌ : {A B : Type 0} → Result A PartFault → (A → Result B
 (Ok x) >>= f = f x
 (Err e) >>= f = Err e
 
--- The fault is the definition's, or want of memory.
+-- The fault is the definition's, or running out of memory.
 abbrev pub GivesFault : {X : Type 0} → PartFault → Result X PartFault → Type 0
 GivesFault fault.NoMemory given = Unit {0}
 GivesFault (fault.BadOwnerLine line) given = given ≡ Err (fault.BadOwnerLine line)

@@ -23,7 +23,7 @@ edges_from out number edges vertex = filter (λ e. near_end out e.1 == vertex) (
 abbrev pub edges_at : Bool → List Edge → ℕ → List (ℕ × Edge)
 edges_at out edges vertex = edges_from out 0 edges vertex
 
--- the greatest number of 32 bits, behind the last edge of a chain
+-- the greatest number of 32 bits, after the last edge of a chain
 abbrev pub no_number : ℕ
 no_number = 2 ^ 32 - 1
 

@@ -23,7 +23,7 @@ abbrev pub is_plain : List ℕ → Bool
 is_plain [] = false
 is_plain (digit ∷ rest) = list_all is_ascii_digit (digit ∷ rest) && (not (digit == 48) || (length rest == 0))
 
--- plain digits, or the same behind a minus, where they aren't 0
+-- plain digits, or the same after a minus, where they aren't 0
 abbrev pub is_key : List ℕ → Bool
 is_key [] = false
 is_key (byte ∷ rest) = if byte == 45 then is_plain rest && not (bytes_eq rest (codes "0")) else is_plain (byte ∷ rest)

@@ -114,7 +114,7 @@ linked scope edge out (Some left) (Some right) = record {
 linked scope edge out (Some left) None = scope
 linked scope edge out None right = scope
 
--- the scope after an edge pattern and the vertex pattern behind it, and that vertex
+-- the scope after an edge pattern and the vertex pattern after it, and that vertex
 abbrev pub after_step : Scope × Option ℕ → EdgePat × VertexPat → Scope × Option ℕ
 after_step before step =
     let edge = after_edge before.0 step.0 in

@@ -252,7 +252,7 @@ impl Scope {
         Ok(())
     }
 
-    // An edge pattern behind the vertex `left`, and the vertex pattern behind it.
+    // An edge pattern after the vertex `left`, and the vertex pattern after it.
     fn step(
         &mut self,
         alloc: Global,

@@ -102,7 +102,7 @@ null_words_by kind = expect k.Null >> pure false
 abbrev pub null_words : Parser Bool
 null_words = by_next (refuse unexpected) (λ t. null_words_by t.kind)
 
--- IS and those words, behind what is this high
+-- IS and those words, after what is this high
 abbrev pub is_words : ℕ → ℕ → Parser Bool
 is_words most height = deeper most height >> (take_token >> null_words)
 

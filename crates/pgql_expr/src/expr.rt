@@ -52,7 +52,7 @@ fn with_not(alloc: Global, x: Found, at: u32) -> Result<Found, Stop>
     })
 }
 
-/// IS NULL or IS NOT NULL behind it.
+/// IS NULL or IS NOT NULL after it.
 fn null_test(alloc: Global, x: Found, negated: bool, at: u32) -> Result<Found, Stop>
     requires { x.height + 1 < 2 ^ 32 }
     ensures made { Makes (spec.found (AstExpr.IsNull x.expr negated at) (x.height + 1)) result }
@@ -134,7 +134,7 @@ fn null_words(input: &mut Input<'_>) -> Result<bool, Stop>
     }
 }
 
-/// `IS [NOT] NULL` behind what is this high, and whether NOT stands there.
+/// `IS [NOT] NULL` after what is this high, and whether NOT stands there.
 fn is_words(most: u32, height: u32, input: &mut Input<'_>) -> Result<bool, Stop>
     ensures reads { Reads (spec.is_words most height input.old) result input.new }
     ensures room { OnOk result (height < most) }

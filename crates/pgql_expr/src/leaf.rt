@@ -75,7 +75,7 @@ fn call_of(function: Function, variable: Boxed<Placed>, at: u32) -> AstExpr
     }
 }
 
-/// `( Name )`, behind the name of a function.
+/// `( Name )`, after the name of a function.
 #[tactic(auto, unfolding(crate::specs::Reading::read_call))]
 fn call(
     alloc: Global,
@@ -92,7 +92,7 @@ fn call(
     Ok(leaf_of(call_of(function, v.placed(alloc)?, t.at)))
 }
 
-/// What an opening parenthesis behind a name makes of it.
+/// What an opening parenthesis after a name makes of it.
 fn opened(alloc: Global, input: &mut Input<'_>, t: Lexeme<'_>) -> Result<Found, Stop>
     requires { is_word t.kind ≡ true }
     ensures reads { Reads (spec.opened (told t.entry) input.old) result input.new }

@@ -1,4 +1,4 @@
--- The tokens of a text as its first one and those of the text behind it.
+-- The tokens of a text as its first one and those of the text after it.
 use Rattle.std.proofs.Common.{◌≡◌, ◌≤◌, ◌<◌, ◌^◌, ℕ, ◌+◌, ◌-◌, List, [], ◌∷◌, take, drop, length, length-drop, map, Option, Some, None, Ok, Err, IsOk, refl, sym, ap, ◌∙◌, subst, arith}
 use Rattle.std.specs.List.{AllByRecursion}
 use Rattle.std.proofs.lemmas.List.{drop-drop}
@@ -17,7 +17,7 @@ first_onto (Some t) ts = refl
 pub first_sound : (base : ℕ) (text : List ℕ) (t : Token) → IsFirst base text (Some t) → IsTokenOf text base t
 first_sound base text t is = (all_sound base text (t ∷ is.0) is.1).0
 
--- a token that stands behind some bytes is the same in the text behind them
+-- a token that stands after some bytes is the same in the text after them
 seen-drop : (base k : ℕ) (text : List ℕ) (t : Token) → base + k ≤ t.at → seen text base t ≡ seen (drop k text) (base + k) t
 seen-drop base k text t le =
     let size : k + (t.at - (base + k)) ≡ t.at - base = omega arith in
@@ -37,7 +37,7 @@ lexemes-tokens base text ts is = ap (λ o. map (seen text base) (tokens_or_none 
 pub no_lexemes : (base : ℕ) (text : List ℕ) → IsFirst base text None → [] ≡ lexemes base text
 no_lexemes base text is = sym (lexemes-tokens base text [] is)
 
--- the first token, and those of the text behind it
+-- the first token, and those of the text after it
 pub lexemes-first : (base : ℕ) (text : List ℕ) (t : Token) (told : Lexeme) → told ≡ seen text base t → IsFirst base text (Some t)
     → told ∷ lexemes t.end (take (length text - (t.end - base)) (drop (t.end - base) text)) ≡ lexemes base text
 lexemes-first base text t told same is =

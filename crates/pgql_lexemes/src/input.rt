@@ -33,7 +33,7 @@ pub enum Stop {
 pub struct Input<'a> {
     // The next token.
     next: Option<Lexeme<'a>>,
-    // The text behind it, and where that begins.
+    // The text after it, and where that begins.
     rest: &'a [u8],
     place: u32,
 }

@@ -22,7 +22,7 @@ pub fn value_of_digits(digits: &[u8]) -> u64
     value
 }
 
-/// What stands behind the quote at the front, and behind the one that doubles it.
+/// What stands after the quote at the front, and after the one that doubles it.
 fn past_quote(quoted: &[u8]) -> &[u8]
     requires { slice_index quoted.now 0 ≡ 39 }
     ensures content { undoubled false quoted.now ≡ 39 ∷ undoubled false result.now }

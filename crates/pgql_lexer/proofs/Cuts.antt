@@ -1,4 +1,4 @@
--- A text as what stands at its front, and the text behind that.
+-- A text as what stands at its front, and the text after that.
 use Rattle.std.proofs.Common.{◌≡◌, ◌≤◌, ℕ, zero, suc, ◌+◌, ◌-◌, Bool, true, false, cond, List, [], ◌∷◌, ◌++◌, map, take, drop, length, length-drop, Option, Some, None, Ok, Err, refl, sym, ap, ◌∙◌, subst, arith}
 use Rattle.std.specs.Prelude.{nat_lt, slice_index, unwrap_or, if◌then◌else◌}
 use Rattle.std.specs.Char.{is_ascii_digit}
@@ -129,7 +129,7 @@ marked_some b z =
     (λ _. by_test Some_bytes (is_quote b) _ _ (λ _. literal_some (b ∷ z) (drop 1 (b ∷ z)) (literal_end false 1 (drop 1 (b ∷ z))) (omega arith) refl)
     (λ _. by_test Some_bytes (opens_comment b (slice_index (b ∷ z) 1)) _ _ (λ _. comment_some (b ∷ z) (drop 2 (b ∷ z)) (comment_end 2 (drop 2 (b ∷ z))) (omega arith) refl) (λ _. omega arith))))
 
--- the marks of the bytes behind those that are passed over
+-- the marks of the bytes after those that are passed over
 from_zero : (m n : Mark) (z : Bytes) → marks_from m 0 z ≡ marks_from n 0 z
 from_zero m n [] = refl
 from_zero m n (b ∷ z) = refl

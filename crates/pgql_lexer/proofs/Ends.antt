@@ -27,7 +27,7 @@ next_closes byte bytes n = let next : suc n + 1 ≡ suc (n + 1) = omega arith in
 none_closes : (n : ℕ) → closes_at [] n ≡ true → ⊥
 none_closes n e = cc
 
--- the first close of the bytes behind one that doesn't begin a close
+-- the first close of the bytes after one that doesn't begin a close
 pushed : (byte : ℕ) (bytes : Bytes) (n : ℕ) → closes_at (byte ∷ bytes) 0 ≡ false → IsFirstClose bytes n → IsFirstClose (byte ∷ bytes) (suc n)
 pushed byte bytes n isnt f = record { closes = next_closes byte bytes n ∙ f.closes; first = none_earlier }
   where

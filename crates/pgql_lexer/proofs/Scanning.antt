@@ -14,7 +14,7 @@ with_front_both : (a b : List Token) (o : Lexed) → with_front a (with_front b 
 with_front_both a b (Ok more) = ap Ok (sym (append_assoc a b more))
 with_front_both a b (Err e) = refl
 
--- what is found behind a token
+-- what is found after a token
 abbrev pub Passes : List Token → ℕ → Front → ℕ → Type 0
 Passes found count front place = (more : List Token) × ((rest : ℕ → Lexed) → with_front found (lexed_after front place rest) ≡ with_front more (rest (count - 1)))
 
@@ -36,7 +36,7 @@ pub stops : (whole : Lexed) (found : List Token) (place : ℕ) (rest : Bytes) (e
     → ((more : ℕ → Lexed) → lexed_after (front_of rest) place more ≡ Err e) → whole ≡ Err e
 stops whole found place rest e some so_far told = so_far ∙ ap (with_front found) (tokens_from-front place rest some ∙ told (λ passed. tokens_from passed (place + 1) (drop 1 rest)))
 
--- the text behind the bytes at its front
+-- the text after the bytes at its front
 pub behind : (count place : ℕ) (text : Bytes) → 1 ≤ count → tokens_from (count - 1) (place + 1) (drop 1 text) ≡ tokens_from 0 (place + count) (drop count text)
 behind count place text some =
     let place_after : (place + 1) + (count - 1) ≡ place + count = omega arith in

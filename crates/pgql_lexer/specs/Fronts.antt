@@ -50,7 +50,7 @@ value_after value (digit ∷ digits) = value_after (10 * value + (digit - 48)) d
 abbrev pub most_number : ℕ
 most_number = 9223372036854775807
 
--- The place behind the closing quote of a literal, whose content goes on here, from this place on. A doubled
+-- The place after the closing quote of a literal, whose content goes on here, from this place on. A doubled
 -- quote doesn't close it, and its second quote isn't looked at again.
 abbrev pub literal_end : Bool → ℕ → Bytes → Option ℕ
 literal_end is_second place [] = None
@@ -59,7 +59,7 @@ literal_end false place (byte ∷ bytes) =
     if is_quote byte && not (is_quote (slice_index bytes 0)) then Some (place + 1)
     else literal_end (is_quote byte) (place + 1) bytes
 
--- the place behind the `*/` of a comment, whose content goes on here, from this place on
+-- the place after the `*/` of a comment, whose content goes on here, from this place on
 abbrev pub comment_end : ℕ → Bytes → Option ℕ
 comment_end place [] = None
 comment_end place (byte ∷ bytes) =

@@ -19,7 +19,7 @@ pub record IsFirstClose (content : Bytes) (place : ℕ) : Type 0 where
   pub closes : ClosesAt content place
   pub first : (earlier : ℕ) → earlier < place → ClosesAt content earlier → ⊥
 
--- A comment ends behind the first `*/` that stands after its `/*`.
+-- A comment ends after the first `*/` that stands after its `/*`.
 abbrev pub CommentsEndAtTheFirstClose : Type 0
 CommentsEndAtTheFirstClose = (content : Bytes) (end : ℕ) → (comment_end 2 content ≡ Some end) ↔ ((place : ℕ) × IsFirstClose content place × (end ≡ place + 4))
 
@@ -37,7 +37,7 @@ pub record IsClosed (text content rest : Bytes) : Type 0 where
   pub is_content : IsContent content
   pub alone : is_quote (slice_index rest 0) ≡ false
 
--- A literal ends behind the first quote that isn't doubled.
+-- A literal ends after the first quote that isn't doubled.
 abbrev pub LiteralsEndAtTheFirstLoneQuote : Type 0
 LiteralsEndAtTheFirstLoneQuote = (text : Bytes) (end : ℕ) → (literal_end false 1 text ≡ Some end) ↔ ((content rest : Bytes) × IsClosed text content rest × (end ≡ length content + 2))
 

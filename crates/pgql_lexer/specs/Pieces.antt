@@ -8,7 +8,7 @@ use Rattle.pgql_lexer.specs.Fronts.{Bytes, is_space, is_quote, opens_comment, li
 abbrev pub is_semicolon : ℕ → Bool
 is_semicolon byte = byte == 59
 
--- a comment's mark and how many bytes it has, by the place behind it, if it is closed
+-- a comment's mark and how many bytes it has, by the place after it, if it is closed
 abbrev pub comment_marked : Bytes → Option ℕ → Mark × ℕ
 comment_marked text None = (mark.Matter, length text)
 comment_marked text (Some end) = (mark.Blank, end)
@@ -60,6 +60,6 @@ placed start (part ∷ parts) =
     let end = start + length part in
     kept start end (list_any is_matter part) ++ placed (end + 1) parts
 
--- the first byte of each piece and the place behind its last
+-- the first byte of each piece and the place after its last
 unfoldable pub pieces : Bytes → List (ℕ × ℕ)
 pieces text = placed 0 (parts (marks text))

@@ -1,4 +1,4 @@
--- Stretches of a text, each from its first byte to the place behind its last.
+-- Stretches of a text, each from its first byte to the place after its last.
 use Rattle.std.specs.Prelude.{ℕ, ◌≤◌, ◌<◌, List, [], ◌∷◌}
 
 -- They stand one after the other between these two places, and none of them is empty.

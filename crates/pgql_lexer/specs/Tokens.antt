@@ -42,7 +42,7 @@ Gives view (Ok found) lexed = lexed ≡ Ok (view found)
 Gives view (Err fault.NoMemory) lexed = Unit {0}
 Gives view (Err e) lexed = lexed ≡ Err e
 
--- from a token's first byte to the place behind its last
+-- from a token's first byte to the place after its last
 abbrev pub stretch_of : Token → ℕ × ℕ
 stretch_of token = (token.at, token.end)
 
@@ -59,7 +59,7 @@ abbrev pub HasTokens : Result (Unit {0}) LexFault → Lexed → Type 0
 HasTokens (Ok done) lexed = (found : List Token) × (lexed ≡ Ok found)
 HasTokens (Err e) lexed = lexed ≡ Err e
 
--- the first of the tokens of a text that begins at this place, and the text behind it has the others
+-- the first of the tokens of a text that begins at this place, and the text after it has the others
 abbrev pub IsFirst : ℕ → Bytes → Option Token → Type 0
 IsFirst place text None = tokens place text ≡ Ok []
 IsFirst place text (Some token) = (more : List Token) × (tokens place text ≡ Ok (token ∷ more)) × (tokens token.end (drop (token.end - place) text) ≡ Ok more) × LiesBetween place (place + length text) (stretch_of token)

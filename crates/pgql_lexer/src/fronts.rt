@@ -104,7 +104,7 @@ fn digits_len(text: &[u8]) -> usize
     end
 }
 
-/// The place behind the closing quote of a literal, whose content begins at place 1.
+/// The place after the closing quote of a literal, whose content begins at place 1.
 pub fn literal_end(mut content: &[u8]) -> Option<usize>
     requires { length content.now < 2 ^ 32 }
     ensures value { result ≡ spec.literal_end false 1 content.entry.now }
@@ -123,7 +123,7 @@ pub fn literal_end(mut content: &[u8]) -> Option<usize>
     None
 }
 
-/// The place behind the `*/` of a comment, whose content begins at place 2.
+/// The place after the `*/` of a comment, whose content begins at place 2.
 pub fn comment_end(mut content: &[u8]) -> Option<usize>
     requires { length content.now < 2 ^ 32 }
     ensures value { result ≡ spec.comment_end 2 content.entry.now }

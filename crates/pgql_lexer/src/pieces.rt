@@ -104,7 +104,7 @@ fn read_on(
     }
 }
 
-/// The pieces of a query file, one for each query: the first byte of each, and the place behind its last.
+/// The pieces of a query file, one for each query: the first byte of each, and the place after its last.
 ///
 /// The file is cut at each `;` that stands outside text literals and comments, and the `;` belongs to no
 /// piece. The last piece may lack it. A text literal or a comment that isn't closed goes on to the file's

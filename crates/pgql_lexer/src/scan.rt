@@ -30,7 +30,7 @@ fn pass_front(front: Front, place: u32, size: usize) -> Result<usize, LexFault>
 ///
 /// # Errors
 ///
-/// As those of `lex`, but for want of memory: it takes none.
+/// As those of `lex`, but for running out of memory: it takes none.
 pub fn check(text: &[u8], base: u32) -> Result<(), LexFault>
     requires short { base + length text.now < 2 ^ 32 }
     ensures { HasTokens result (tokens base text.now) }

@@ -23,7 +23,7 @@ behind b z n m same none k lt is = none (suc k) (omega arith) is
 first_plain : (b : ℕ) (z : List ℕ) (n : ℕ) → 0 < n → NoQuote (b ∷ z) n → (b == 39) ≡ false
 first_plain b z n some none = not_true (b == 39) (λ is. none 0 some is)
 
--- the bytes before the first quote, that quote twice, and what stands behind it
+-- the bytes before the first quote, that quote twice, and what stands after it
 pub run_written : (z : List ℕ) (n : ℕ) → n < length z → NoQuote z n → (slice_index z n == 39) ≡ true
     → flat_map doubled z ≡ take n z ++ 39 ∷ 39 ∷ flat_map doubled (drop 1 (drop n z))
 run_written [] n lt none is = absurd (omega arith)

@@ -252,7 +252,7 @@ fn put_query(out: &mut Vec<u8>, ast: &Ast) -> Result<(), AllocError>
 
 /// The text of a query.
 ///
-/// One space stands between two tokens; none stands inside `a.name`, `id(a)` and patterns, behind an opening
+/// One space stands between two tokens; none stands inside `a.name`, `id(a)` and patterns, after an opening
 /// parenthesis and a sign minus, and before a closing parenthesis and a comma. Keywords are in capitals.
 /// ASC isn't written, and an edge without name and labels is an arrow. An operand stands in parentheses only
 /// where it would else be read otherwise.

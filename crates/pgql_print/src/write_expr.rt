@@ -133,7 +133,7 @@ fn put_quoted(out: &mut Vec<u8>, content: &[u8]) -> Result<(), AllocError>
     Ok(())
 }
 
-/// What stands behind the first byte.
+/// What stands after the first byte.
 fn behind_first(bytes: &[u8]) -> &[u8]
     requires { 0 < length bytes.now }
     ensures rest { result.now ≡ drop 1 bytes.now }
@@ -186,7 +186,7 @@ fn put_property(
     Ok(())
 }
 
-/// A name behind a function and its parenthesis.
+/// A name after a function and its parenthesis.
 fn put_call(out: &mut Vec<u8>, function: &[u8], variable: &Boxed<Placed>) -> Result<(), AllocError>
     ensures { OnOk result (out.new.items ≡ out.old.items ++ (function.now ++ (variable.now.name ++ codes ")"))) }
 {

@@ -15,7 +15,7 @@ pub trait Written {
         ensures { OnOk result (out.new.items ≡ out.old.items ++ text self.now) };
 }
 
-/// Adds the texts, each behind the mark.
+/// Adds the texts, each after the mark.
 pub fn put_each<T: Written>(out: &mut Vec<u8>, mark: &[u8], items: &[T]) -> Result<(), AllocError>
     ensures { OnOk result (out.new.items ≡ out.old.items ++ flat_map (λ x. mark.now ++ T.text x) items.now) }
 {

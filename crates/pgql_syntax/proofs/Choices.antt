@@ -1,4 +1,4 @@
--- Parts behind a mark by whether the mark comes next, and what is read in two steps.
+-- Parts after a mark by whether the mark comes next, and what is read in two steps.
 use Rattle.std.proofs.Common.{◌≡◌, ℕ, Bool, true, false, List, [], ◌∷◌, Option, Some, None, Ok, Err, refl, sym, ap, ◌∙◌}
 use Rattle.pgql_lexemes.specs.declared.kind.Kind.{Kind}
 use Rattle.pgql_lexemes.specs.declared.kind.Kind.TheVariants as k

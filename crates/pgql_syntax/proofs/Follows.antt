@@ -1,4 +1,4 @@
--- What was taken is of the rule, and what a refusal leaves behind can be ended.
+-- What was taken is of the rule, and what a refusal leaves after can be ended.
 use Rattle.std.proofs.Common.{◌≡◌, ℕ, ◌<◌, Bool, true, false, List, [], ◌∷◌, ◌++◌, Ok, Err, refl, sym, ap, ◌∙◌, subst, append_assoc, arith}
 use Rattle.std.specs.Prelude.{nat_lt}
 use Rattle.std.proofs.lemmas.Bool.Decides.{nat_tests}

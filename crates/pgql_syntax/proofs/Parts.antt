@@ -1,4 +1,4 @@
--- Laws of combinators: what stands behind other tokens, parts that may be missing, choices.
+-- Laws of combinators: what stands after other tokens, parts that may be missing, choices.
 use Rattle.std.proofs.Common.{◌≡◌, suc, ◌≤◌, ◌<◌, Bool, true, false, List, [], ◌∷◌, ◌++◌, length, length-append, Option, Some, None, Ok, Err, refl, sym, ap, ◌∙◌, subst, append_assoc, arith}
 use Rattle.std.specs.Prelude.{map}
 use Rattle.pgql_lexemes.specs.declared.kind.Kind.{Kind}
@@ -22,7 +22,7 @@ module _ (keeps : Refusal → Type 0) where
   Steady-perhaps part kind s = Steady-by_next keeps (Steady-pure keeps None)
       (λ t. Steady-choose (same_kind t.kind kind) (Steady-then keeps s (λ x. Steady-pure keeps (Some x))) (Steady-pure keeps None))
 
--- a part is a whole, or goes on one, behind tokens that were taken before it
+-- a part is a whole, or goes on one, after tokens that were taken before it
 module _ {A : Type 0} (low high low' high' : List Lexeme → A → Type 0) (before : List Lexeme)
     (up : (a : List Lexeme) (v : A) → low a v → low' (before ++ a) v) (up_high : (a : List Lexeme) (v : A) → high a v → high' (before ++ a) v) where
   end_up : (a : List Lexeme) → CanEnd low a → CanEnd low' (before ++ a)

@@ -71,7 +71,7 @@ labels_read (labelled colon ts is d) rest c b =
     ap (λ v. choose (take_token >> separated read_label k.Bar) (pure []) v (colon ∷ ts ++ rest)) (ap (λ v. same_kind v k.Colon) is ∙ same_itself k.Colon)
     ∙ separated_reads IsLabel k.Bar read_label anything label_reads (λ t us q. tt) label_some d rest tt b
 
--- what stands behind a spec
+-- what stands after a spec
 abbrev EndsSpec : List Lexeme → Type 0
 EndsSpec rest = IsNot k.Name rest × IsNot k.Colon rest × IsNot k.Bar rest
 

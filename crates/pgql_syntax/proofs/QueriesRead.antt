@@ -59,7 +59,7 @@ no_edge : (p : Kind → Bool) → ((kind : Kind) → p kind ≡ true → begins_
 no_edge p f [] s = tt
 no_edge p f (t ∷ ts) s = f t.kind s
 
--- what may stand behind the items, the paths, the condition, the keys
+-- what may stand after the items, the paths, the condition, the keys
 abbrev only_match : Kind → Bool
 only_match k.Match = true
 only_match kind = false

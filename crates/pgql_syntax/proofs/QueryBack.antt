@@ -79,7 +79,7 @@ both_back R r {x = x} {y = y} f parted is same a b = record {
 }
 
 module _ {A B : Type 0} (IsPart : List Lexeme → A → Type 0) (bared : A → B) (write : A → List ℕ) (part_back : (ts : List Lexeme) (x : A) → IsPart ts x → AllByRecursion IsSource ts → ReadsBack IsPart bared x (write x)) where
-  -- more items, each behind a mark
+  -- more items, each after a mark
   more_text : (mark : Kind) (mark_text : List ℕ) {ts : List Lexeme} {xs : List A} → Separated IsPart mark ts xs → flat_map (λ y. mark_text ++ write y) xs ≡ mark_text ++ between mark_text write xs
   more_text mark mark_text (alone {x = x} d) = append_assoc mark_text (write x) []
   more_text mark mark_text (followed a b t {x = x} {xs = xs} d is more) = append_assoc mark_text (write x) (flat_map (λ y. mark_text ++ write y) xs)

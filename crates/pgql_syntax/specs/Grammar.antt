@@ -29,7 +29,7 @@ pub data Separated {A : Type 0} (IsItem : List Lexeme → A → Type 0) (mark : 
   followed : (a b : List Lexeme) (t : Lexeme) {x : A} {xs : List A}
       → IsItem a x → t.kind ≡ mark → Separated IsItem mark b xs → Separated IsItem mark (a ++ t ∷ b) (x ∷ xs)
 
--- a part behind its mark, or nothing
+-- a part after its mark, or nothing
 pub data Optional {A : Type 0} (IsPart : List Lexeme → A → Type 0) (mark : Kind) : List Lexeme → Option A → Type 0 where
   absent : Optional IsPart mark [] None
   present : (t : Lexeme) (ts : List Lexeme) {x : A} → t.kind ≡ mark → IsPart ts x → Optional IsPart mark (t ∷ ts) (Some x)

@@ -37,11 +37,11 @@ read_enclosed opens closes = do
 unfoldable pub read_vertex : Parser VertexPat
 read_vertex = read_enclosed k.Open k.Close >>= λ s. pure (vertex_of s.0 s.1)
 
--- `->` behind a bracket
+-- `->` after a bracket
 abbrev pub read_arrow_end : Parser Lexeme
 read_arrow_end = expect k.Minus >> expect k.Greater
 
--- `[..]->`, behind a minus
+-- `[..]->`, after a minus
 unfoldable pub read_out : ℕ → Parser EdgePat
 read_out at = do
   s ← read_enclosed k.OpenBracket k.CloseBracket
@@ -57,7 +57,7 @@ minus_by kind at = refuse unexpected
 abbrev pub after_minus : ℕ → Parser EdgePat
 after_minus at = by_next (refuse unexpected) (λ t. minus_by t.kind at)
 
--- `[..]-`, behind `<-`
+-- `[..]-`, after `<-`
 unfoldable pub read_in : ℕ → Parser EdgePat
 read_in at = do
   s ← read_enclosed k.OpenBracket k.CloseBracket

@@ -154,7 +154,7 @@ fn edge_out(alloc: Global, input: &mut Input<'_>, at: u32) -> Result<EdgePat, St
     Ok(edge_of(true, inside, at))
 }
 
-/// What stands behind the minus of an edge that leads out.
+/// What stands after the minus of an edge that leads out.
 fn after_minus(alloc: Global, input: &mut Input<'_>, at: u32) -> Result<EdgePat, Stop>
     ensures { Reads (spec.after_minus at input.old) result input.new }
 {
@@ -181,7 +181,7 @@ fn edge_in(alloc: Global, input: &mut Input<'_>, at: u32) -> Result<EdgePat, Sto
     Ok(edge_of(false, inside, at))
 }
 
-/// What stands behind the `<-` of an edge that leads in.
+/// What stands after the `<-` of an edge that leads in.
 fn after_less(alloc: Global, input: &mut Input<'_>, at: u32) -> Result<EdgePat, Stop>
     ensures { Reads (spec.after_less at input.old) result input.new }
 {

@@ -27,7 +27,7 @@ pub struct Head {
     pub paths: Items<Path>,
 }
 
-/// What stands behind the paths of a query.
+/// What stands after the paths of a query.
 #[derive(Drop)]
 pub struct Tail {
     pub condition: Option<AstExpr>,

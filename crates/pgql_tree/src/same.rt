@@ -393,7 +393,7 @@ fn same_limit(a: &Option<u64>, b: &Option<u64>) -> bool
     }
 }
 
-/// What stands behind the paths.
+/// What stands after the paths.
 fn same_tail(a: &Ast, b: &Ast) -> bool
     ensures { IsTrue result ↔ spec.HaveSameTail a.now b.now }
 {

@@ -18,7 +18,7 @@ use Rattle.plan_tree.proofs.Agree.{at}
 use Rattle.plan_tree.proofs.PartLaws.{vertex-in}
 use Rattle.plan_tree.proofs.Tells.{HasRoom, Tells, all_hold-meet, all_told-known, conjuncts_meet, element-is, labels-meet, tells-written, uses-known}
 
--- The result is there, with words that tell of the assignment, exactly where the rows that are asked for are those behind.
+-- The result is there, with words that tell of the assignment, exactly where the rows that are asked for are those after.
 pub record Fits (g : PropertyGraph) (q : Query) (known : List Bool) (c : List ℕ) (result : Option (List ℕ)) (asked rest : List (List ℕ)) : Type 0 where
   pub fits : Bool
   pub words : List ℕ
@@ -130,7 +130,7 @@ ordered-conjuncts : (q : Query) (bound : List Bool) (numbers : List ℕ) (ms : L
 ordered-conjuncts q bound [] ms ordered = ordered
 ordered-conjuncts q bound (n ∷ ns) ms ordered = ordered-conjuncts q bound ns ms ordered.1
 
--- what is ordered stays so behind what is asked
+-- what is ordered stays so after what is asked
 pub ordered-about : (q : Query) (bound : List Bool) (w : Walk) (o : Option ℕ) (ms : List Move) → IsOrdered q bound (ask_about q w o ms) → IsOrdered q bound ms
 ordered-about q bound w None ms ordered = ordered-conjuncts q bound (whole q w.known w.waiting) ms ordered
 ordered-about q bound w (Some v) ms ordered = ordered-conjuncts q bound (whole q (set w.known v true) w.waiting) ms ordered.1

@@ -138,7 +138,7 @@ module _ (texts : List (List ℕ)) (g : PropertyGraph) (q : Query) (owners : Lis
     at_answer false is rows_are =
         lead-as (rows_at g q below (child_or_pass result machine)) [] asked [] (ap (λ r. rows_at g q below (child_or_pass r machine)) is) rows_are (lead-none g q)
 
-  -- what is to be shown of the stages behind a hop
+  -- what is to be shown of the stages after a hop
   abbrev Later : ℕ → Walk → List Hop → Type 0
   Later k w hops = (m : ℕ) (c words : List ℕ) → m < machines → IsOrdered q (learned w.arriving w.known) (moves_from q w hops)
       → Stands g q owners w m c → Tells g q w.known c words

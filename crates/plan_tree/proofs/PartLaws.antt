@@ -13,7 +13,7 @@ use Rattle.sorted_lists.specs.Sorted.{before_by, in_order, placed}
 use Rattle.plan_tree.specs.Answers.{entries_in, vertex_in}
 use Rattle.plan_tree.specs.Rows.{edges_at}
 
--- the first place of two lists, one behind an item
+-- the first place of two lists, one after an item
 position_cons : {X : Type 0} (p : X → Bool) (x : X) (xs : List X) → position p (x ∷ xs) ≡ cond (p x) (Some 0) (option_map suc (position p xs))
 position_cons {X} p x xs = by (p x) (nat_lt (position_or_len p xs) (length xs)) refl
   where

@@ -35,7 +35,7 @@ drop-later zero (x ∷ xs) y ys is = ap later is
 drop-later (suc n) [] y ys is = cc
 drop-later (suc n) (x ∷ xs) y ys is = drop-later n xs y ys is
 
--- the answers behind the first are ahead afterwards
+-- the answers after the first are ahead afterwards
 module _ (texts : List (List ℕ)) (q : Query) (part : MachinePart) (stage : Stage) where
   rest-of : (words : List ℕ) (place : ℕ)
       → ahead texts q part stage (words_after texts q part stage words place) (place_after texts q part stage words place) ≡ later (ahead texts q part stage words place)
@@ -104,7 +104,7 @@ some-hops : (hops : List Hop) → EndsWithOutput hops → 0 + 1 < suc (length ho
 some-hops [] ends = absurd ends
 some-hops (h ∷ hops) ends = omega arith
 
--- the first stage has the first hop, and the others those behind it
+-- the first stage has the first hop, and the others those after it
 first-or-later : (q : Query) (taken : Hop) (hops : List Hop) (w : Walk) (k : ℕ) (stage : Stage) → slice_get (stages_from q w (taken ∷ hops)) k ≡ Some stage
     → StandsAt 0 (suc (length hops)) taken
     → ((k : ℕ) → slice_get (stages_from q (walk_after q w taken) hops) k ≡ Some stage → StandsAt k (length hops) stage.hop)

@@ -49,7 +49,7 @@ is_told texts k (Some word) = is_valid texts (value_from k (Some word)) && is_wo
 abbrev pub with_number : ℕ → ℕ → List ℕ → List ℕ
 with_number variable number words = slice_set words (1 + variable) number
 
--- the words with a captured value, behind the numbers of so many variables
+-- the words with a captured value, after the numbers of so many variables
 abbrev pub with_capture : ℕ → ℕ → Option ℕ → List ℕ → List ℕ
 with_capture variables place None words =
     slice_set (slice_set words 0 (bit_or (slice_index words 0) (2 ^ place))) (1 + variables + place) 0

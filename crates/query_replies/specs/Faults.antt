@@ -10,7 +10,7 @@ use Rattle.stage_plan.specs.declared.fault.PlanFault.TheVariants as planning
 use Rattle.typed_expr.specs.declared.fault.TypeFault.{TypeFault}
 use Rattle.typed_expr.specs.declared.fault.TypeFault.TheVariants as typing
 
--- want of memory is no refusal, and has no number
+-- running out of memory is no refusal, and has no number
 abbrev pub refusal_of_lex : LexFault → Refusal
 refusal_of_lex (lex.BadCharacter at) = At 10 at
 refusal_of_lex (lex.OpenText at) = At 11 at

@@ -18,7 +18,7 @@ flat_map-map : {X Y Z : Type 0} (g : Y → List Z) (f : X → Y) (xs : List X) �
 flat_map-map g f [] = refl
 flat_map-map g f (x ∷ xs) = ap (λ rest. g (f x) ++ rest) (flat_map-map g f xs)
 
--- the first cell, and the others behind it
+-- the first cell, and the others after it
 pub parted-first : {X : Type 0} (f : X → List ℕ) (all others : List X) (first : X) (old mid : List ℕ) → all ≡ first ∷ others → mid ≡ old ++ f first
     → mid ++ flat_map (λ x. 44 ∷ f x) others ≡ old ++ parted (map f all)
 parted-first f all others first old mid is is_mid =

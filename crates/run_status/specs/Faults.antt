@@ -60,7 +60,7 @@ abbrev pub with_status : {A : Type 0} → Result A fault.TableFault → Result A
 with_status (Ok x) = Ok x
 with_status (Err e) = Err (status_of_fault e)
 
--- want of memory is no fault of the file
+-- running out of memory is no fault of the file
 abbrev pub status_of_owners : PartFault → Status
 status_of_owners part.NoMemory = NoMemory
 status_of_owners e = OwnerFault e

@@ -31,7 +31,7 @@ quantity_name quantity.Edges = codes "Edges"
 quantity_name quantity.Cells = codes "Cells"
 quantity_name quantity.Queries = codes "Queries"
 
--- words, a number, and what stands behind it
+-- words, a number, and what stands after it
 abbrev pub numbered : List ℕ → ℕ → List ℕ → List ℕ
 numbered front number back = front ++ (decimal number ++ back)
 

@@ -2,7 +2,7 @@
 //!
 //! `Status` has a variant for each way in which a run may end. Its number is the program's exit status, and its line is
 //! what a user reads (`status_number` and `status_line`, specs/StatusLine.antt). A fault of the manifest, of a table, of
-//! the owner file or of a trace comes to exactly one status (specs/Faults.antt), and want of memory is never told as a fault of a file.
+//! the owner file or of a trace comes to exactly one status (specs/Faults.antt), and running out of memory is never told as a fault of a file.
 #![tactic(auto)]
 
 mod faults;

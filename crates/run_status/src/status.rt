@@ -32,7 +32,7 @@ pub enum Status {
         code: u32,
         cell: u32,
     },
-    /// The owner file breaks its rules so. Want of memory isn't told in this way.
+    /// The owner file breaks its rules so. Running out of memory isn't told in this way.
     OwnerFault(PartFault),
     /// The store failed at this file.
     ReadFault {

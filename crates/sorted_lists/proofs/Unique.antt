@@ -47,7 +47,7 @@ in_order-stable before order (x ∷ xs) z =
 ties-itself : {X : Type 0} (before : X → X → Bool) → IsStrictWeakOrder before → (x : X) → ties before x x ≡ true
 ties-itself before order x = grind (arith, common_steps, order.one_way x x)
 
--- what is behind in an ascending list
+-- what is after in an ascending list
 none_before : {X : Type 0} (before : X → X → Bool) (x : X) (keep : X → Bool) (ys : List X) → AllByRecursion (λ y. before y x ≡ false) ys
     → AllByRecursion (λ y. before y x ≡ false) (filter keep ys)
 none_before before x keep [] behind = tt

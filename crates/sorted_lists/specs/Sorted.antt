@@ -7,7 +7,7 @@ use Rattle.std.specs.Fn.{Called}
 use Rattle.std.specs.Ordering.{is_lt}
 use Rattle.std.specs.declared.cmp.Ordering.{Ordering}
 
--- the item in its place of a list in order: behind those that come before it
+-- the item in its place of a list in order: after those that come before it
 abbrev pub placed : {X : Type 0} → (X → X → Bool) → X → List X → List X
 placed before x [] = x ∷ []
 placed before x (y ∷ ys) = if before y x then y ∷ placed before x ys else x ∷ y ∷ ys

@@ -1,6 +1,8 @@
 //! What no clause says: that the calls go well when they can, and that they count what other counters count.
-use super::*;
 use adfs_base::{Charge, Closing, Gate, HoldGate, Marked, Pick};
+use credit_players::{
+    Answers, Outcome, Round, claimed_by_two, closed_by_two, filled_by_one, played_by_four,
+};
 use std::test::Fail;
 use std::thread::join;
 

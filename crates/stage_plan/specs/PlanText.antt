@@ -34,7 +34,7 @@ hop_text query hop.Output = codes "output"
 abbrev pub hop_line : Query → ℕ → Hop → List ℕ
 hop_line query stage taken = decimal stage ++ 32 ∷ (hop_text query taken ++ 10 ∷ [])
 
--- the stage after a hop: the root is taken at the same stage as the hop behind it
+-- the stage after a hop: the root is taken at the same stage as the hop after it
 abbrev pub stage_after : ℕ → Hop → ℕ
 stage_after stage (hop.Root variable) = stage
 stage_after stage taken = stage + 1

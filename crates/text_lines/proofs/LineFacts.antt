@@ -44,7 +44,7 @@ part (x ∷ xs) = by (is_feed x) refl (part xs)
     by true e p = ([], slice_split is_feed xs, rw e refl)
     by false e p = (x ∷ p.0, p.1, rw (e, p.2) refl)
 
--- the first line and the lines behind it
+-- the first line and the lines after it
 pub lines_some : (w : List ℕ) (n : ℕ) → position is_feed w ≡ Some n → lines w ≡ strip_carriage_return (take n w) ∷ lines (drop (n + 1) w)
 lines_some w n e = by (nat_lt (place w) (length w)) refl e
   where

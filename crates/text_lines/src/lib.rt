@@ -1,7 +1,7 @@
 //! The lines of a text, one at a time.
 //!
 //! A line ends with a line feed, and a carriage return before it is dropped. The last line may lack its
-//! end, and then keeps a carriage return. A text that ends with a line feed has no empty line behind it.
+//! end, and then keeps a carriage return. A text that ends with a line feed has no empty line after it.
 //!
 //! A contract sees `Lines` as the list of the lines that are left (`lines` of std), so reading a line is
 //! taking the head of that list. Nothing here takes memory.
@@ -44,7 +44,7 @@ fn feed_at(text: &[u8]) -> Option<usize>
     text.iter().position(|b| *b == b'\n')
 }
 
-// The bytes behind a place.
+// The bytes after a place.
 fn behind(text: &[u8], n: usize) -> &[u8]
     requires { n < length text.now }
     ensures { result.now ≡ drop (n + 1) text.now }

@@ -27,7 +27,7 @@ is_last fan stage = stage + 1 == fan.stages
 abbrev pub one_leaf : Bool → Context → List Item
 one_leaf first context = if first then Leaf context ∷ [] else []
 
--- what is ahead at a place behind those of which nothing comes
+-- what is ahead at a place after those of which nothing comes
 abbrev pub fan_items : Fan → ℕ → Context → ℕ → List Item
 fan_items fan stage context place =
     if has_children fan stage then children_from fan.machines (child_count fan - place) place context

@@ -142,7 +142,8 @@ pub meant-Property : (schema : SchemaLists) (variables : List Declared) (capture
 unfolding meant
 meant-Property schema variables captures texts whole variable property at is = fold-Property Expr (meant_of schema variables captures texts) whole variable property at is
 
-pub meant-Id : (schema : SchemaLists) (variables : List Declared) (captures : List Capture) (texts : List (List ℕ)) (whole : AstExpr) (variable : Placed) (at : ℕ) → whole ≡ ast.Id variable at → meant schema variables captures texts whole ≡ captured captures (use_of what.Id (variable_of variables variable.name))
+pub meant-Id : (schema : SchemaLists) (variables : List Declared) (captures : List Capture) (texts : List (List ℕ)) (whole : AstExpr) (variable : Placed) (at : ℕ)
+    → whole ≡ ast.Id variable at → meant schema variables captures texts whole ≡ captured captures (use_of what.Id (variable_of variables variable.name))
 unfolding meant
 meant-Id schema variables captures texts whole variable at is = fold-Id Expr (meant_of schema variables captures texts) whole variable at is
 

@@ -187,7 +187,7 @@ first_fault schema ast scope = first_of (faults_of schema ast scope)
 unfoldable pub typed : SchemaLists → List (List ℕ) → Ast → Result (Query × List (List ℕ)) TypeFault
 typed schema texts ast = let scope = scope_of ast.paths in typed_by schema texts ast scope (first_fault schema ast scope)
 
--- The call returned what the tree means, and left the texts so. For want of memory further texts may be there, and
+-- The call returned what the tree means, and left the texts so. For running out of memory further texts may be there, and
 -- at a fault none are.
 abbrev pub Gives : List (List ℕ) → List (List ℕ) → Result Query TypeFault → Result (Query × List (List ℕ)) TypeFault → Type 0
 Gives old new (Ok query) wanted = wanted ≡ Ok (query, new)

@@ -52,7 +52,7 @@ abbrev pub cell_value : Kind → List ℕ → List (List ℕ) → Reading
 cell_value k [] texts = Ok (value.Null, texts)
 cell_value k (b ∷ rest) texts = filled_cell k (b ∷ rest) texts
 
--- The fault is want of memory, or that of the reading.
+-- The fault is running out of memory, or that of the reading.
 abbrev pub Fails : CellFault → Reading → Type 0
 Fails fault.NoMemory reading = Unit {0}
 Fails fault.BadInt reading = reading ≡ Err fault.BadInt

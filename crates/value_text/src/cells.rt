@@ -35,7 +35,7 @@ pub enum CellFault {
     NoMemory,
 }
 
-// What stands behind a sign, if there is one.
+// What stands after a sign, if there is one.
 fn unsigned_part(cell: &[u8]) -> &[u8]
     ensures { result.now ≡ without_leading_sign cell.now }
 {

@@ -48,7 +48,7 @@ fn append_doubled(text: &[u8], out: &mut Vec<u8>) -> Result<(), NoMemory>
     Ok(())
 }
 
-// Appends a text behind a quote.
+// Appends a text after a quote.
 fn append_opened(text: &[u8], out: &mut Vec<u8>) -> Result<(), NoMemory>
     ensures ok { OnOk result (Appends out.old.items out.new.items (34 ∷ flat_map doubled text.now)) }
     ensures err { OnErr result (Grows out.old.items out.new.items) }

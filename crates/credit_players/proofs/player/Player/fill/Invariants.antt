@@ -1,0 +1,5 @@
+use Rattle.credit_players.specs.Players.{IsReady}
+use Rattle.credit_players.proofs.player.Player.fill.Given as goal
+
+abbrev pub invariant-loop : goal.invariant-loop
+invariant-loop l = IsReady l.credits l.self

@@ -1,6 +1,0 @@
-use Rattle.std.proofs.Common.{◌≡◌, None}
-use Rattle.stage_credits_tests.specs.Players.{IsReady}
-use Rattle.stage_credits_tests.proofs.scenes.charge_often.Given as goal
-
-abbrev pub invariant-loop-tried : goal.invariant-loop-tried
-invariant-loop-tried l = record { ready : IsReady l.credits l.player; free : l.player.in_hand ≡ None }
