@@ -20,20 +20,29 @@ replay t
 plan g q
 help";
 
-/// Command lines, and below each its numbers: machines, workers, threads, credits, broad, buffer, lanes, pool,
-/// seed, vertices and edges.
+/// Command lines, and below each its command and its numbers: machines, workers, threads, credits, broad, buffer,
+/// lanes, pool, seed, vertices and edges.
 const NUMBERS: &str = "\
 run --workers 3 graph.txt --part=listed:a:b=c q.txt --pool 9
-1 3 1 2 2 16 1 9 0 0 0
+run 1 3 1 2 2 16 1 9 0 0 0
 
 gen 7 10 --buffer=4 80
-1 1 1 2 2 4 1 14400 7 10 80
+gen 1 1 1 2 2 4 1 14400 7 10 80
 
 trace g q --schedule 5
-1 1 1 2 2 16 1 14400 5 0 0
+trace 1 1 1 2 2 16 1 14400 5 0 0
 
 run g q --machines 2 --threads=4 --credits 5 --broad=6 --lanes 8
-2 1 4 5 6 16 8 14400 0 0 0";
+run 2 1 4 5 6 16 8 14400 0 0 0
+
+plan g q
+plan 1 1 1 2 2 16 1 14400 0 0 0
+
+replay t
+replay 1 1 1 2 2 16 1 14400 0 0 0
+
+help
+help 1 1 1 2 2 16 1 14400 0 0 0";
 
 /// The words of a line, parted by single spaces.
 fn words_of(alloc: Global, line: &str) -> Result<Vec<String>, Fail> {
@@ -54,11 +63,11 @@ fn is_taken(alloc: Global, line: &str) -> Result<bool, Fail> {
     Ok(read_words(alloc, words.as_slice()).is_ok())
 }
 
-/// The numbers of the machines' side.
+/// The command, and the numbers of the machines' side.
 fn first_numbers(alloc: Global, o: &Options) -> Result<String, Fail> {
     Ok(format!(in alloc;
-        "{} {} {} {} {} {}",
-        o.machines, o.workers, o.threads, o.credits, o.broad, o.buffer
+        "{} {} {} {} {} {} {}",
+        o.command.name(), o.machines, o.workers, o.threads, o.credits, o.broad, o.buffer
     )?)
 }
 
@@ -70,7 +79,7 @@ fn last_numbers(alloc: Global, o: &Options) -> Result<String, Fail> {
     )?)
 }
 
-/// Whether the line has these numbers.
+/// Whether the line has this command and these numbers.
 fn has_numbers(alloc: Global, line: &str, numbers: &str) -> Result<bool, Fail> {
     let options = taken(alloc, line)?;
     let first = first_numbers(alloc, &options)?;
@@ -126,6 +135,8 @@ fn files_stand_in_the_order_of_their_words(rt: HostRuntime) -> Result<(), Fail> 
     let line = "run --workers 3 graph.txt --part=listed:a:b=c q.txt --pool 9";
     assert!(rt; has_files(rt.alloc(), line, &["graph.txt", "q.txt"])?);
     assert!(rt; is_listed(rt.alloc(), line, "a:b=c")?);
+    assert!(rt; has_files(rt.alloc(), "trace g q --schedule 5", &["g", "q"])?);
+    assert!(rt; has_files(rt.alloc(), "gen 7 10 --buffer=4 80", &[])?);
     Ok(())
 }
 

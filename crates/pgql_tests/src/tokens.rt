@@ -1,6 +1,6 @@
 //! What a reader of the language says of short texts: the pictures were drawn by hand.
 
-ghost use Rattle.std.specs.Prelude.{◌<◌, ◌≤◌, ◌^◌, length};
+ghost use Rattle.std.specs.Prelude.{◌<◌, ◌≤◌, ◌+◌, ◌^◌, length};
 
 use pgql_lexer::{LexFault, Token, TokenKind, cut, lex};
 use std::alloc::{AllocError, Global};
@@ -30,7 +30,10 @@ W    W
 N S S N
 
 9223372036854775807 00000000000000000000009
-Nnnnnnnnnnnnnnnnnnn Nnnnnnnnnnnnnnnnnnnnnnn";
+Nnnnnnnnnnnnnnnnnnn Nnnnnnnnnnnnnnnnnnnnnnn
+
+'é' a
+Tttt W";
 
 /// Files of queries, and a mark below each byte of a piece.
 const PIECES: &str = "\
@@ -50,7 +53,16 @@ a/*;*/b; c
 ####### ##
 
 '/*';'*/'
-#### ####";
+#### ####
+
+/*/;
+####
+
+/*'*/;'
+      #
+
+'a;'#;/ * ;
+##### ####";
 
 /// Where the texts of tokens begin in their file.
 const BASE: u32 = 1000;
@@ -107,6 +119,13 @@ fn has_pieces(alloc: Global, text: &str, picture: &str) -> Result<bool, Fail> {
     Ok(drawn.as_slice() == picture.as_bytes())
 }
 
+/// Whether the text, which begins there in its file, is read and has no token.
+fn is_blank(alloc: Global, text: &[u8], base: u32) -> Result<bool, LexFault>
+    requires { base + length text.now < 2 ^ 32 }
+{
+    Ok(lex(alloc, text, base)?.as_slice().is_empty())
+}
+
 /// Why the text has no tokens, if it has none.
 fn fault(alloc: Global, text: &[u8]) -> Option<LexFault> {
     if text.len() > 1000 {
@@ -121,6 +140,13 @@ fn tokens_are_the_longest_at_each_place(rt: HostRuntime) -> Result<(), Fail> {
         let (text, picture) = block.split_once('\n').unwrap_or((block, ""));
         assert!(rt; has_tokens(rt.alloc(), text, picture)?, "at {text:?}");
     }
+    Ok(())
+}
+
+#[test]
+fn blank_texts_have_no_token(rt: HostRuntime) -> Result<(), Fail> {
+    assert!(rt; is_blank(rt.alloc(), b" \t\r\n", 7)?);
+    assert!(rt; is_blank(rt.alloc(), b"", 4294967295)?);
     Ok(())
 }
 

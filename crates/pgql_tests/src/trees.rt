@@ -15,7 +15,16 @@ SELECT ID(a) MATCH (a)
 SELECT id(a) MATCH (a)
 
 select 'a' MATCH (:x|y)
-SELECT 'a' MATCH (:x | y)";
+SELECT 'a' MATCH (:x | y)
+
+select distinct a . name as n , ID ( b ) match ( a : x | y ) - [ ] -> ( b ) < - [ e ] - ( ) , (c)
+SELECT DISTINCT a.name AS n, id(b) MATCH (a:x|y)->(b)<-[e]-(), (c)
+
+SELECT (1 + 2) * 3 - (4 - 5) MATCH (a) WHERE NOT (a.x = 1 OR (b.y IS not null)) ORDER BY (k) ASC, -(-1) DESC LIMIT 010
+SELECT (1 + 2) * 3 - (4 - 5) MATCH (a) WHERE NOT (a.x = 1 OR b.y IS NOT NULL) ORDER BY k, --1 DESC LIMIT 10
+
+SELECT (1 = 2) = TRUE, (NOT x) IS NULL, date '2020-01-01', 'it''s' MATCH ()
+SELECT (1 = 2) = TRUE, (NOT x) IS NULL, DATE '2020-01-01', 'it''s' MATCH ()";
 
 /// Two queries with different trees.
 const DIFFERENT: &str = "\
