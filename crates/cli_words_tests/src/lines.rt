@@ -67,7 +67,13 @@ fn is_taken(alloc: Global, line: &str) -> Result<bool, Fail> {
 fn first_numbers(alloc: Global, o: &Options) -> Result<String, Fail> {
     Ok(format!(in alloc;
         "{} {} {} {} {} {} {}",
-        o.command.name(), o.machines, o.workers, o.threads, o.credits, o.broad, o.buffer
+        o.command.name(),
+        o.machines,
+        o.workers,
+        o.threads,
+        o.credits,
+        o.broad,
+        o.buffer
     )?)
 }
 
