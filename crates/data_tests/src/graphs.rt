@@ -13,7 +13,7 @@ const TOWN: [(&str, &str); 3] = [
     ),
     (
         "people.csv",
-        "id:int,name:text,born:date\n1,Ann,1990-05-01\n2,\"Cy, Jr\",\n",
+        "id:int,name:text,born:date\n1,Ann,1990-05-01\n2,\"Cy, Jr\",\n3,\"\",\n",
     ),
     (
         "knows.csv",
@@ -37,15 +37,17 @@ fn town(alloc: Global, failing: u64) -> Result<MemStore, NoMemory> {
 }
 
 fn has_vertices(graph: &Graph) -> bool {
-    graph.vertices() == 2
+    graph.vertices() == 3
         && graph.vertex(0) == (1, 0)
         && graph.vertex(1) == (2, 0)
+        && graph.vertex(2) == (3, 0)
         && graph.vertex_value(0, 0) == Value::Text(1)
         && graph.vertex_value(0, 1) == Value::Date(7425)
         && graph.vertex_value(1, 1) == Value::Null
         && graph.vertex_value(1, 2) == Value::Null
+        && graph.vertex_value(2, 0) == Value::Null
         && graph.vertex_of(2) == Some(1)
-        && graph.vertex_of(3).is_none()
+        && graph.vertex_of(4).is_none()
 }
 
 fn has_edges(graph: &Graph) -> bool {
@@ -64,9 +66,11 @@ fn has_schema(schema: &Schema) -> bool {
         && schema.edge_property(b"name").is_none()
 }
 
+// The texts of the town: the empty name, in quotes, is none of them.
 fn has_texts(texts: &Texts) -> bool {
     texts.len() == 4
         && texts.get(0) == b"person".as_slice()
+        && texts.get(1) == b"Ann".as_slice()
         && texts.get(2) == b"Cy, Jr".as_slice()
         && texts.get(3) == b"knows".as_slice()
 }

@@ -75,7 +75,7 @@ fn tell_part(part: &Part, told: &mut Vec<i64>) -> Result<(), NoMemory> {
     Ok(())
 }
 
-// What the parts of a graph say, one after the other.
+// What the parts of a graph say, one after the other; nothing where they aren't as many as the machines.
 fn tell_parts(
     alloc: Global,
     graph: Graph,
@@ -87,6 +87,9 @@ fn tell_parts(
     requires owner { IsOwner owner.now (length graph.vertices) machines }
 {
     let parts = split(alloc, graph, owner, machines)?;
+    if parts.len() != machines as usize {
+        return Ok(());
+    }
     for part in &parts {
         tell_part(part, told)?;
     }
@@ -159,5 +162,11 @@ fn each_edge_is_told_twice_by_any_machines(rt: HostRuntime) -> Result<(), Fail> 
         assert_eq!(rt; told(rt.alloc(), &Owner::Modulo, machines)?.len(), 52);
         assert_eq!(rt; told(rt.alloc(), &Owner::Block, machines)?.len(), 52);
     }
+    let listed = told_as_listed(rt.alloc(), "1 0\n2 0\n3 0\n4 0\n", 1)?;
+    assert_eq!(rt; listed.len(), 52);
+    let listed = told_as_listed(rt.alloc(), "1 2\n2 1\n3 0\n4 1\n", 3)?;
+    assert_eq!(rt; listed.len(), 52);
+    let listed = told_as_listed(rt.alloc(), "4 3\n3 7\n2 0\n1 7\n", 8)?;
+    assert_eq!(rt; listed.len(), 52);
     Ok(())
 }

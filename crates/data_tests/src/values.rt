@@ -9,9 +9,12 @@ use value_text::{CellFault, Texts, compare, put_text, put_value, read_date, read
 fn days_count_from_1970(rt: HostRuntime) -> Result<(), Fail> {
     for (text, day) in [
         ("1970-01-01", 0),
+        ("1970-01-02", 1),
         ("1969-12-31", -1),
         ("2000-02-29", 11_016),
+        ("2024-02-29", 19_782),
         ("0000-01-01", -719_528),
+        ("0000-02-29", -719_469),
         ("9999-12-31", 2_932_896),
     ] {
         assert_eq!(rt; read_date(text.as_bytes()), Some(day));
@@ -77,6 +80,38 @@ fn a_text_is_kept_once_and_keeps_its_number(rt: HostRuntime) -> Result<(), Fail>
     let due: [u32; 6] = [0, 1, 0, 2, 1, 3];
     assert_eq!(rt; numbers(rt.alloc(), &words)?.as_slice(), due.as_slice());
     Ok(())
+}
+
+#[test]
+fn texts_are_found_by_all_their_bytes(rt: HostRuntime) -> Result<(), Fail> {
+    let mut texts = Texts::new(rt.alloc());
+    texts.add(b"delta")?;
+    texts.add(b"")?;
+    texts.add(b"alpha")?;
+    assert_eq!(rt; texts.find(b""), Some(1));
+    assert_eq!(rt; texts.find(b"alpha"), Some(2));
+    assert_eq!(rt; texts.find(b"alph"), None);
+    assert_eq!(rt; texts.len(), 3);
+    Ok(())
+}
+
+#[test]
+fn a_cell_that_is_refused_leaves_no_text(rt: HostRuntime) {
+    let mut texts = Texts::new(rt.alloc());
+    let kind = Kind::Text;
+    assert_eq!(rt;
+        read_value(kind, b"\xc3\xa9", &mut texts),
+        Ok(Value::Text(0))
+    );
+    assert_eq!(rt;
+        read_value(kind, b"\xc3\x28", &mut texts),
+        Err(CellFault::BadText)
+    );
+    assert_eq!(rt;
+        read_value(kind, b"\xed\xa0\x80", &mut texts),
+        Err(CellFault::BadText)
+    );
+    assert_eq!(rt; texts.len(), 1);
 }
 
 // Whether each value comes before the next.
