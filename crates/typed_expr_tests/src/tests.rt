@@ -5,7 +5,8 @@ use adfs_base::{MemStore, Name, NoMemory, Value};
 use graph_loading::load_graph;
 use graph_tables::Schema;
 use pgql_syntax::parse;
-use pgql_tree::Ast;
+use pgql_tree::{Ast, Op};
+use sqlite_items::Boxed;
 use std::alloc::Global;
 use std::test::Fail;
 use typed_expr::{Expr, Query, TypeFault, What, literal_count, passes, type_query, value};
@@ -113,11 +114,44 @@ fn names_give_way_to_numbers(rt: HostRuntime) -> Result<(), Fail> {
             "SELECT id(a) MATCH (a)->(a) WHERE a.age = 1 AND id(a) = 2 OR TRUE",
             ((2, 1, 2), (1, 0, 0), ('p', 1)),
         ),
+        (
+            "SELECT DISTINCT a.name AS n, 'x' AS m MATCH (a:person)<-[e:knows]-(b), (b:person) WHERE a.name = 'y' AND (id(b) < 5 AND e.since IS NOT NULL) ORDER BY n DESC LIMIT 3",
+            ((3, 3, 3), (1, 2, 0), ('p', 100)),
+        ),
     ] {
         let told = numbers_of(rt.alloc(), text)?;
         assert!(rt; told == Some(due), "{text}");
     }
     Ok(())
+}
+
+// What a comparison gives of a number and a truth value.
+fn compared(alloc: Global, op: Op) -> Result<Value, NoMemory> {
+    let number = Boxed::new(alloc, Expr::Constant(Value::Int(1)))?;
+    let truth = Boxed::new(alloc, Expr::Constant(Value::Bool(true)))?;
+    let expr = Expr::Binary(op, number, truth);
+    Ok(value(&expr, &[], &Texts::new(alloc)))
+}
+
+#[test]
+fn values_of_two_kinds_compare_to_null(rt: HostRuntime) -> Result<(), Fail> {
+    for op in [
+        Op::Equal,
+        Op::Unequal,
+        Op::Less,
+        Op::LessEqual,
+        Op::Greater,
+        Op::GreaterEqual,
+    ] {
+        assert_eq!(rt; compared(rt.alloc(), op)?, Value::Null);
+    }
+    Ok(())
+}
+
+#[test]
+fn a_capture_that_is_not_there_is_null(rt: HostRuntime) {
+    let texts = Texts::new(rt.alloc());
+    assert_eq!(rt; value(&Expr::Captured(0), &[], &texts), Value::Null);
 }
 
 #[test]
