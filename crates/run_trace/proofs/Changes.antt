@@ -1,9 +1,7 @@
 -- What an event changes of what stands outside the pools: of its worker, and of what is shared.
-use Rattle.std.proofs.Common.{◌≡◌, ◌≢◌, ◌⊎◌, inl, inr, ◌∙◌, refl, sym, ap, subst, arith, cond, ℕ, ◌+◌, ◌-◌, ◌*◌, ◌<◌, ◌≤◌, Bool, true, false, not, ◌&&◌, List, [], ◌∷◌, ◌++◌, length, length-append, get_or, is_some, Option, Some, None}
-use Rattle.std.specs.Prelude.{slice_get, slice_set, nat_lt, nat_eq}
+use Rattle.std.proofs.Common.{◌≡◌, ◌∙◌, refl, sym, ap, subst, arith, cond, ℕ, ◌+◌, ◌<◌, Bool, true, false, not, ◌&&◌, List, [], ◌∷◌, length, get_or, Option, Some, None}
+use Rattle.std.specs.Prelude.{slice_set, nat_lt, nat_eq}
 use Rattle.std.proofs.lemmas.Bool.Decides.{nat_tests}
-use Rattle.std.proofs.lemmas.Nat.{same_from_place}
-use Rattle.adfs_base.specs.Shape.{Extents, IsShape}
 use Rattle.match_context.specs.Bags.{total}
 use Rattle.match_context.specs.Batch.{Batch}
 use Rattle.match_context.specs.declared.context.Context.{Context}
@@ -14,23 +12,20 @@ use Rattle.match_context.specs.declared.frame.Rest.{Rest}
 use Rattle.match_context.specs.declared.frame.Rest.TheVariants as rest
 use Rattle.match_context.specs.declared.message.Message.{Message}
 use Rattle.match_context.specs.Tree.{Tree, after}
-use Rattle.match_context.proofs.Totals.{total-set, total-push}
-use Rattle.dfs_worker.specs.declared.event.Event.{Event}
 use Rattle.dfs_worker.specs.declared.event.Event.TheVariants as event
 use Rattle.dfs_worker.specs.declared.guard.Guard.TheVariants as guard
-use Rattle.dfs_worker.specs.declared.hand.Hand.{Hand}
-use Rattle.dfs_worker.specs.declared.hand.Hand.TheVariants.{Free, Charged, Posted, Popped, Emptied}
+use Rattle.dfs_worker.specs.declared.hand.Hand.TheVariants.{Free, Charged, Popped}
 use Rattle.dfs_worker.specs.Guards.{own_guard}
-use Rattle.dfs_worker.specs.Own.{claimed, retired, ended, stepped, onto, answer_at, frames_after, advanced, descended, descended_by, appended, appended_by, charged, opened_with, fetched, fetched_for, posted, posted_by, freed, popped, message_frame, picked, picked_by, restored, restored_by}
-use Rattle.dfs_worker.specs.Slots.{Slots, slot_of, open_at, is_open, has_room, room_in, added, added_to, with_context}
+use Rattle.dfs_worker.specs.Own.{claimed, ended, stepped, onto, answer_at, frames_after, advanced, descended, descended_by, appended, appended_by, charged, opened_with, fetched, fetched_for, posted, posted_by, freed, popped, message_frame, picked, picked_by, restored, restored_by}
+use Rattle.dfs_worker.specs.Slots.{Slots, slot_of, open_at, is_open, has_room, room_in, added, added_to}
 use Rattle.dfs_worker.specs.Sound.{IsWorker}
-use Rattle.dfs_worker.specs.State.{State, waiting}
-use Rattle.dfs_worker.proofs.Facts.{Waits, Works, Ends, Charges, start-facts, advance-facts, child-facts, charged-facts, charges-facts, post-facts, push-facts, pop-facts, pick-facts, discharge-facts, restore-facts, waiting-is}
+use Rattle.dfs_worker.specs.State.{State}
+use Rattle.dfs_worker.proofs.Facts.{Waits, Ends, Charges, advance-facts, child-facts, charged-facts, charges-facts, waiting-is}
 use Rattle.dfs_worker.proofs.Counts.{child-exists}
 use Rattle.dfs_worker.proofs.Keeps.{descended-is, appended-is, charged-is, fetched-is, posted-is, picked-is, restored-is}
 use Rattle.dfs_worker.proofs.Places.{open-facts, none-facts, slot-within, total-set_or}
-use Rattle.world_core.specs.Gauge.{at_frame, at_worker, children, in_frame, in_hand, in_rest, in_slot, in_worker, its_contexts, one_buffer}
-use Rattle.run_trace.specs.Gauging.{held_in, one_if, top_in}
+use Rattle.world_core.specs.Gauge.{at_frame, at_worker, in_frame, in_hand, in_rest, in_slot, in_worker}
+use Rattle.run_trace.specs.Gauging.{one_if, top_in}
 
 -- ---- claim
 pub claimed-in : (number : Message → ℕ) (tree : Tree) (v : State) (first end : ℕ) → in_worker number (claimed tree first end v) ≡ in_worker number v

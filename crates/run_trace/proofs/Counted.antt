@@ -1,17 +1,17 @@
 -- What stands outside the pools after a step, by what stood there before.
-use Rattle.std.proofs.Common.{◌≡◌, ◌∙◌, refl, sym, ap, subst, arith, ℕ, zero, suc, ◌+◌, ◌-◌, ◌^◌, ◌<◌, ◌≤◌, Bool, true, false, not, ◌&&◌, List, [], ◌∷◌, ◌++◌, length, length-append, Option, Some, None, is_some}
+use Rattle.std.proofs.Common.{◌≡◌, ◌∙◌, refl, sym, ap, subst, arith, ℕ, zero, suc, ◌+◌, ◌<◌, ◌≤◌, Bool, true, false, not, ◌&&◌, List, [], ◌∷◌, ◌++◌, length, length-append, Option, Some, None, is_some}
 use Rattle.std.specs.Prelude.{nat_lt, slice_get, slice_set}
 use Rattle.adfs_base.specs.Shape.{Extents, IsShape}
 use Rattle.adfs_base.specs.declared.limits.TheConstants.{BUFFER_CONTEXTS}
 use Rattle.match_context.specs.Bags.{total}
-use Rattle.match_context.specs.Tree.{Tree, IsTree}
+use Rattle.match_context.specs.Tree.{Tree}
 use Rattle.match_context.specs.declared.context.Context.{Context}
 use Rattle.match_context.specs.declared.frame.Frame.{Frame}
 use Rattle.match_context.specs.declared.frame.Rest.{Rest}
 use Rattle.match_context.specs.declared.frame.Rest.TheVariants as rest
 use Rattle.match_context.specs.declared.message.Message.{Message}
 use Rattle.match_context.proofs.Totals.{total-set, total-push}
-use Rattle.fabric.specs.Calls.{after_pop, after_push, can_push, chunk_end, empty_buffer, first_in, pop_answer, with_last, without_first}
+use Rattle.fabric.specs.Calls.{after_pop, can_push, chunk_end, empty_buffer, first_in, pop_answer, with_last, without_first}
 use Rattle.fabric.specs.Shared.{Shared, cursor_at, inbox_at, inbox_place}
 use Rattle.dfs_worker.specs.declared.event.Event.{Event}
 use Rattle.dfs_worker.specs.declared.event.Event.TheVariants.{Claim, Retire, Advance, Descend, Append, Charge, Fetch, Post, Push, Pop, Pick, Restore, Discharge, Mark, Close}
@@ -19,21 +19,21 @@ use Rattle.dfs_worker.specs.declared.guard.Guard.TheVariants as guard
 use Rattle.dfs_worker.specs.declared.hand.Hand.{Hand}
 use Rattle.dfs_worker.specs.declared.hand.Hand.TheVariants.{Free, Charged, Posted, Popped, Emptied}
 use Rattle.dfs_worker.specs.Own.{freed, popped}
-use Rattle.dfs_worker.specs.Sound.{IsStack, IsWorker, StandsOn}
+use Rattle.dfs_worker.specs.Sound.{IsStack, StandsOn}
 use Rattle.dfs_worker.specs.State.{State, next_stage, waiting}
-use Rattle.dfs_worker.proofs.Facts.{Ends, must-none, charged-facts, discharge-facts, pick-facts, pop-facts, post-facts, push-facts, restore-facts}
+use Rattle.dfs_worker.proofs.Facts.{must-none, discharge-facts, pick-facts, pop-facts, post-facts, push-facts, restore-facts}
 use Rattle.world_core.specs.declared.gauge.Gauge.{Gauge}
-use Rattle.world_core.specs.Gauge.{at_worker, gauge_of, in_hand, in_inboxes, in_worker, its_contexts, one_buffer, outside}
+use Rattle.world_core.specs.Gauge.{at_worker, gauge_of, in_hand, in_inboxes, in_worker, its_contexts, one_buffer}
 use Rattle.world_core.specs.Sound.{Sound}
 use Rattle.world_core.specs.Step.{Step, charged_for, discharged_from, own_part, picked_from, popped_as, posted_test, pushed_from, restored_from, restored_rest, shared_part, worker_of}
-use Rattle.world_core.specs.World.{Fits, World}
+use Rattle.world_core.specs.World.{World}
 use Rattle.world_core.proofs.Bounds.{bounded, small}
 use Rattle.world_core.proofs.Inboxes.{first-message, space-in, tested-posted}
 use Rattle.world_core.proofs.Parts.{Enabled, enabled-facts, machine-in}
 use Rattle.world_core.proofs.Steps.{happens-is}
 use Rattle.run_trace.specs.declared.gauging.Top.{Top}
 use Rattle.run_trace.specs.Gauging.{Fitting, held_in, moved, one_if, put_out, so_many, taken_back, top_at, top_in, top_of}
-use Rattle.run_trace.proofs.Changes.{Appends, AtMoves, Fetches, advanced-at, advanced-in, appends, charged-at, charged-in, claimed-at, claimed-in, descended-at, descended-in, fetches, freed-in, picked-at, picked-in, popped-in, posted-at, posted-in, restored-at, restored-held, restored-in}
+use Rattle.run_trace.proofs.Changes.{advanced-at, advanced-in, appends, charged-at, charged-in, claimed-at, claimed-in, descended-at, descended-in, fetches, freed-in, picked-at, picked-in, popped-in, posted-at, posted-in, restored-at, restored-held, restored-in}
 use Rattle.run_trace.proofs.Inboxes.{inboxes-change, inboxes-same}
 
 -- a worker and what is shared change, and so much comes out of the pools and goes back

@@ -1,5 +1,5 @@
 -- What stands in the inboxes, when one of them changes.
-use Rattle.std.proofs.Common.{◌≡◌, ◌≢◌, ◌⊎◌, inl, inr, ◌∙◌, refl, sym, ap, subst, arith, cond, ltb, ℕ, zero, suc, ◌+◌, ◌*◌, ◌<◌, ◌≤◌, Bool, true, false, ◌&&◌, List, [], ◌∷◌, ◌++◌, length, Option, Some, None}
+use Rattle.std.proofs.Common.{◌≡◌, ◌≢◌, ◌∙◌, refl, sym, ap, arith, cond, ℕ, zero, suc, ◌+◌, ◌*◌, ◌<◌, Bool, true, false, ◌&&◌, List, [], ◌∷◌, Some, None}
 use Rattle.std.specs.Prelude.{slice_get, slice_set, nat_lt}
 use Rattle.std.proofs.lemmas.Bool.Decides.{nat_tests}
 use Rattle.std.proofs.lemmas.Nat.{same_from_place}
@@ -8,7 +8,7 @@ use Rattle.match_context.specs.Bags.{total}
 use Rattle.match_context.specs.declared.message.Message.{Message}
 use Rattle.fabric.specs.Shared.{Shared, inbox_at, inbox_place}
 use Rattle.fabric.proofs.Agrees.{inbox-is}
-use Rattle.world_core.specs.Gauge.{in_inbox, in_inboxes, in_machine, messages_of}
+use Rattle.world_core.specs.Gauge.{in_inbox, in_inboxes, in_machine}
 use Rattle.world_core.specs.Owed.{total_below}
 use Rattle.world_core.proofs.Weighs.{below-change, below-same}
 

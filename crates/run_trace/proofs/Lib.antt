@@ -2,3 +2,4 @@ mod Changes
 mod Counted
 mod Inboxes
 pub mod Replays
+mod Rowless

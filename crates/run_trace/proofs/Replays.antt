@@ -73,6 +73,9 @@ pub left_event : (tree : Tree) (line : List ℕ) (left lines : List (List ℕ)) 
 left_event tree line left lines w new so_far more whole is here other taken counted =
     is ∙ ap (λ left. replayed tree left w so_far) here ∙ line_event tree line lines w so_far (sym other) ∙ taken (replayed tree lines) ∙ ap (replayed tree lines new) (sym counted)
 
+pub left_over : (tree : Tree) (left : List (List ℕ)) (w : World) (so_far : Replayed) (whole : Result Replayed ReplayFault) → whole ≡ replayed tree left w so_far → left ≡ [] → whole ≡ Err fault.NotFinished
+left_over tree left w so_far whole is over = is ∙ ap (λ left. replayed tree left w so_far) over ∙ lines_over tree w so_far
+
 -- The same from a world that so many events led to.
 record IsRest (tree : Tree) (start : World) (so_far : Replayed) (lines : List (List ℕ)) (told : Replayed) : Type 0 where
   events : List Event

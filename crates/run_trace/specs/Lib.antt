@@ -1,3 +1,4 @@
 pub mod Gauging
 pub mod Replay
+pub mod Rowless
 pub mod Runs

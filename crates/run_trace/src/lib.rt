@@ -9,6 +9,10 @@
 //! What stands outside the pools is counted once, at the start; then each event adds what it puts out and takes off what goes
 //! back, which the top of its worker's stack tells (`specs/Gauging.antt`).
 //!
+//! The rows of a run are never kept: those of an event's worker go as soon as the event is made, so before each event no
+//! worker has a row. No event asks what rows there are, and nothing that is told does, so the answer is that of the run
+//! with all its rows.
+//!
 //! The lines themselves are those of `trace_text`.
 #![tactic(auto)]
 

@@ -1,11 +1,13 @@
 //! The events of a text, made in turn.
-ghost use Rattle.std.specs.Prelude.{◌≡◌, ◌≤◌, ◌<◌, ◌+◌, ◌^◌, IfErr, OnOk, bytes_eq, codes, drop, length};
+ghost use Rattle.std.specs.Prelude.{◌≡◌, ◌≤◌, ◌<◌, ◌+◌, ◌^◌, IfErr, IfOk, OnOk, bytes_eq, codes, drop, length};
 ghost use Rattle.std.specs.Str.Lines.{lines};
 ghost use Rattle.trace_text.specs.Faults.{Gives, GivesFault};
 ghost use Rattle.trace_text.specs.Reading.{event_of};
 ghost use Rattle.world_core.specs.Gauge.{gauge_of};
-ghost use Rattle.world_core.specs.World.{Fits, start_world};
+ghost use Rattle.world_core.specs.Rows.{without_rows_at};
+ghost use Rattle.world_core.specs.World.{Fits, start_world, world_of};
 ghost use Rattle.run_trace.specs.Replay.{Taken, event_on, finish, greater, line_number, replayed, with_event};
+ghost use Rattle.run_trace.specs.Rowless.{IsMadeBy, IsRowless};
 ghost use Rattle.run_trace.specs.Runs.{begun};
 
 use crate::gauging::step_counted;
@@ -14,7 +16,7 @@ use match_context::Expand;
 use std::alloc::Global;
 use text_lines::Lines;
 use trace_text::{ReplayFault, read_event};
-use world_core::{Gauge, Stepped, World};
+use world_core::{Gauge, Stepped, World, worker_of};
 
 /// How a run went that was taken again.
 #[derive(Clone, Copy, Debug, PartialEq, Eq)]
@@ -42,30 +44,39 @@ fn line_number(so_far: &Replayed) -> u32
     so_far.events as u32 + 6
 }
 
-// Makes the event of a line, and keeps count of what stands outside the pools.
+// Makes the event of a line, keeps count of what stands outside the pools, and tells whose event it was.
 fn take_event<X: Expand>(
     world: &mut World,
     x: &X,
     so_far: &Replayed,
     line: &[u8],
     gauge: &mut Gauge,
-) -> Result<(), ReplayFault>
+) -> Result<u32, ReplayFault>
     requires fits { Fits (X.tree x.now) world.old.shared }
     requires few { so_far.now.events + 6 < 2 ^ 32 }
     requires counted { gauge.old ≡ gauge_of world.old }
     ensures fits { Fits (X.tree x.now) world.new.shared }
     ensures counted { OnOk result (gauge.new ≡ gauge_of world.new) }
     ensures made { OnOk result (Taken (X.tree x.now) world.old so_far.now line.now world.new) }
+    ensures worker { IfOk result (λ w. IsMadeBy (X.tree x.now) world.old line.now w world.new) }
     ensures fault { IfErr result (λ why. GivesFault why (event_on world.old so_far.now (event_of line.now))) }
 {
     let Some(event) = read_event(line) else {
         return Err(ReplayFault::BadLine(line_number(so_far)));
     };
     match step_counted(world, x, &event, gauge) {
-        Stepped::Done => Ok(()),
+        Stepped::Done => Ok(worker_of(&event)),
         Stepped::NotEnabled(guard) => Err(ReplayFault::NotEnabled(line_number(so_far), guard)),
         Stepped::NoMemory => Err(ReplayFault::NoMemory),
     }
+}
+
+// Lets the rows of a worker go. No event asks what rows there are, and what is told doesn't either.
+fn let_rows_go(world: &mut World, w: u32)
+    requires { w < length world.old.workers }
+    ensures { world.new ≡ world_of (without_rows_at world.old.workers w) world.old.shared }
+{
+    world.take_rows(w);
 }
 
 // One event more.
@@ -103,9 +114,11 @@ fn says_finished(line: &[u8]) -> bool
     line == b"finished".as_slice()
 }
 
-// The lines from here on, in a world of that start.
+// The lines from here on, in a world of that start. No worker has a row before an event, so the rows of a run take no
+// memory.
 fn replay_lines<X: Expand>(world: &mut World, x: &X, text: &[u8]) -> Result<Replayed, ReplayFault>
     requires fits { Fits (X.tree x.now) world.old.shared }
+    requires rowless { IsRowless world.old }
     requires short { length text.now ≤ FILE_BYTES }
     ensures exact { Gives (λ told. told) result (replayed (X.tree x.now) (lines text.now) world.old (begun world.old)) }
 {
@@ -119,8 +132,9 @@ fn replay_lines<X: Expand>(world: &mut World, x: &X, text: &[u8]) -> Result<Repl
         if says_finished(line) {
             return finish(world, so_far);
         }
-        if let Err(why) = take_event(world, x, &so_far, line, &mut gauge) {
-            return Err(why);
+        match take_event(world, x, &so_far, line, &mut gauge) {
+            Ok(w) => let_rows_go(world, w),
+            Err(why) => return Err(why),
         }
         so_far = with_event(so_far, gauge);
     }

@@ -1,5 +1,5 @@
-use Rattle.std.proofs.Common.{◌≡◌, ◌∙◌, ap, sym, subst}
-use Rattle.run_trace.specs.Gauging.{Fitting, moved, put_out, taken_back, top_of}
+use Rattle.std.proofs.Common.{◌∙◌, ap}
+use Rattle.run_trace.specs.Gauging.{moved, put_out, taken_back, top_of}
 use Rattle.run_trace.proofs.Counted.{held-fits, step-counts, step-fitting, step-gauge}
 use Rattle.run_trace.proofs.gauging.step_counted.Goals as goal
 
