@@ -266,6 +266,14 @@ fn add_order(
     add_keys_by_names(items, keys, scene, &mut names, found)
 }
 
+// No entries, with room for so many. A list of one entry for each item or key takes its memory at once, since one that
+// grows holds its old entries beside the new ones.
+fn with_room<T>(alloc: Global, count: usize) -> Result<Items<T>, NoMemory>
+    ensures { IfOk result (λ list. list ≡ []) }
+{
+    Ok(Items::from_vec(Vec::with_capacity(alloc, count)?))
+}
+
 // A query of which nothing is known but DISTINCT and LIMIT.
 fn bare_query(alloc: Global, ast: &Ast) -> Query
     ensures { result ≡ record { variables = []; edges = []; captures = []; conjuncts = []; select = []; keys = []; distinct = ast.now.distinct; limit = ast.now.limit } }
@@ -299,13 +307,17 @@ fn add_expressions(
     select: &mut Items<(Expr, Name)>,
     keys: &mut Items<(Expr, bool)>,
 ) -> Result<(), NoMemory>
+    requires select { select.old ≡ [] }
+    requires keys { keys.old ≡ [] }
     ensures { let means = meaning.meant scene.entry.schema.now scene.entry.variables.now scene.entry.captures.now scene.entry.texts.now in
         OnOk result ((conjuncts.new ≡ conjuncts.old ++ spec.conjuncts_of means ast.old.condition)
-        × (select.new ≡ select.old ++ spec.select_of means ast.old.items)
-        × (keys.new ≡ keys.old ++ spec.keys_of means ast.old.items ast.old.keys)) }
+        × (select.new ≡ spec.select_of means ast.old.items)
+        × (keys.new ≡ spec.keys_of means ast.old.items ast.old.keys)) }
 {
+    *keys = with_room(scene.alloc, ast.keys.len())?;
     add_order(ast.items.as_slice(), ast.keys.as_slice(), scene, keys)?;
     add_condition(&ast.condition, scene, conjuncts)?;
+    *select = with_room(scene.alloc, ast.items.len())?;
     add_columns(&mut ast.items, scene, select)
 }
 
