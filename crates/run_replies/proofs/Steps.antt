@@ -1,16 +1,18 @@
 -- A run whose first step went well, by what its second step gave.
 use Rattle.std.proofs.Common.{◌≡◌, ℕ, ◌+◌, ◌-◌, ◌≤◌, min, List, ◌∷◌, map, ap, sym, ◌∙◌, Option, Some, None, Result, Ok, Err, IsOk, ◌⊎◌, inl, inr, IfOk, IfSome, IfErr, MatchOption, arith, subst, refl}
 use Rattle.adfs_base.specs.Counts.{Rose}
+use Rattle.adfs_base.specs.Files.{Files}
 use Rattle.adfs_base.specs.declared.name.NoMemory.{NoMemory as OutOfMemory}
 use Rattle.cli_words.specs.declared.options.Options.{Options}
 use Rattle.generated_reply.specs.Summary.{Summarizes}
 use Rattle.graph_tables.specs.Graph.{PropertyGraph}
 use Rattle.graph_tables.specs.declared.faults.TableFault.{TableFault}
 use Rattle.query_replies.specs.declared.answers.Replies.{Replies}
-use Rattle.run_replies.specs.Causes.{StoreCause}
+use Rattle.run_replies.specs.Causes.{FailsAt, StoreCause}
 use Rattle.run_replies.specs.Jobs.{Job}
 use Rattle.run_replies.specs.Outcome.{Generated, IsDoneBy, Work}
 use Rattle.run_replies.specs.Parts.{IsOfBytes, IsOfFiles, IsOfWords, PartGives, RepliesGive}
+use Rattle.run_replies.specs.Reaching.{Then}
 use Rattle.run_replies.specs.Stores.{ReadsFiles, Tells}
 use Rattle.run_replies.specs.Telling.{with_memory}
 use Rattle.run_status.specs.Faults.{with_status}
@@ -161,72 +163,89 @@ bytes_files WriteFault is = is
 bytes_files (NotBuilt what) is = is
 bytes_files status is = tt
 
+-- ---- files that are named
+
+-- a file of these is one of those
+named_among : (These Those : ℕ → Type 0) (status : Status) → ((file : ℕ) → These file → Those file) → FailsAt These status → FailsAt Those status
+named_among These Those (ReadFault file) among at = among file at
+named_among These Those status among at = tt
+
+-- what bytes cause names none
+bytes_at : (Reaches : ℕ → Type 0) (status : Status) → IsOfBytes status → FailsAt Reaches status
+bytes_at Reaches (ReadFault file) is = absurd is
+bytes_at Reaches status is = tt
+
+-- a step after one that gave this
+named_after : {A X : Type 0} (First : Option Files → ℕ → Type 0) (step : Files → Result A Status) (Next : A → Option Files → ℕ → Type 0) (given : A) (files left : Option Files) (result : Result X Status)
+    → left ≡ files → IfSome files (λ told. step told ≡ Ok given) → IfErr result (FailsAt (Next given left)) → IfErr result (FailsAt (Then First step Next files))
+named_after First step Next given files left (Ok x) kept gave at = tt
+named_after First step Next given files left (Err status) kept gave at =
+    named_among (Next given left) (Then First step Next files) status (λ file reached. inr (given, gave, subst (λ f. Next given f file) kept reached)) at
+
 -- ---- steps that read files
 
-pub reads_ok : {X : Type 0} (names : Status → Type 0) (old new : Tells) (x : X) → new.0 ≡ old.0 → old.1 ≤ new.1 → old.2 ≤ new.2 → ReadsFiles names old new (Ok x)
-reads_ok names old new x kept faults misses = record { kept = kept; faults = faults; misses = misses; cause = tt; status = tt; place = tt }
-
-pub reads_bytes : {X : Type 0} (names : Status → Type 0) (old new : Tells) (status : Status) → new.0 ≡ old.0 → old.1 ≤ new.1 → old.2 ≤ new.2 → IsOfBytes status → names status
-    → ReadsFiles {X = X} names old new (Err status)
-reads_bytes names old new status kept faults misses is named = record {
-  kept = kept;
-  faults = faults;
-  misses = misses;
-  cause = bytes_cause status old.0 old.1 new.1 old.2 new.2 is;
-  status = bytes_files status is;
-  place = named;
-}
+pub reads_ok : {X : Type 0} (Reaches : Option Files → ℕ → Type 0) (old new : Tells) (x : X) → new.0 ≡ old.0 → old.1 ≤ new.1 → old.2 ≤ new.2 → ReadsFiles Reaches old new (Ok x)
+reads_ok Reaches old new x kept faults misses = record { kept = kept; faults = faults; misses = misses; cause = tt; status = tt; place = tt }
 
 -- a step after one that went well
-pub reads_after : {X Y : Type 0} (names others : Status → Type 0) (old middle new : Tells) (first : Result X Status) (result : Result Y Status)
-    → ReadsFiles others old middle first → ReadsFiles names middle new result → ReadsFiles names old new result
-reads_after names others old middle new first result before here = record {
+pub reads_after : {A X Y : Type 0} (First : Option Files → ℕ → Type 0) (step : Files → Result A Status) (Next : A → Option Files → ℕ → Type 0) (given : A) (old middle new : Tells)
+    (first : Result X Status) (result : Result Y Status) → IfSome old.0 (λ told. step told ≡ Ok given) → ReadsFiles First old middle first → ReadsFiles (Next given) middle new result
+    → ReadsFiles (Then First step Next) old new result
+reads_after First step Next given old middle new first result gave before here = record {
   kept = here.kept ∙ before.kept;
   faults = omega (arith, before.faults, here.faults);
   misses = omega (arith, before.misses, here.misses);
   cause = cause_earlier result old.0 middle.0 old.1 middle.1 new.1 old.2 middle.2 new.2 before.kept before.faults before.misses here.cause;
   status = here.status;
-  place = here.place;
+  place = named_after First step Next given old.0 middle.0 result before.kept gave here.place;
 }
 
--- a step that fails as one before it did
-pub reads_failed : {X Y : Type 0} (names others : Status → Type 0) (old new : Tells) (status : Status) → (others status → names status)
-    → ReadsFiles {X = X} others old new (Err status) → ReadsFiles {X = Y} names old new (Err status)
-reads_failed names others old new status named before =
-    record { kept = before.kept; faults = before.faults; misses = before.misses; cause = before.cause; status = before.status; place = named before.place }
+-- a step that fails as one before it did, which reaches no more files
+pub reads_failed : {X Y : Type 0} (Those These : Option Files → ℕ → Type 0) (old new : Tells) (status : Status) → ((file : ℕ) → These old.0 file → Those old.0 file)
+    → ReadsFiles {X = X} These old new (Err status) → ReadsFiles {X = Y} Those old new (Err status)
+reads_failed Those These old new status among before = record {
+  kept = before.kept;
+  faults = before.faults;
+  misses = before.misses;
+  cause = before.cause;
+  status = before.status;
+  place = named_among (These old.0) (Those old.0) status among before.place;
+}
 
--- a step whose files are named otherwise
-pub reads_named : {X : Type 0} (names others : Status → Type 0) (old new : Tells) (result : Result X Status) → ((status : Status) → others status → names status)
-    → ReadsFiles others old new result → ReadsFiles names old new result
-reads_named names others old new (Ok x) named before =
-    record { kept = before.kept; faults = before.faults; misses = before.misses; cause = before.cause; status = before.status; place = tt }
-reads_named names others old new (Err status) named before = reads_failed names others old new status (named status) before
+-- two steps, of which the first fails
+pub reads_stopped : {A X Y : Type 0} (First : Option Files → ℕ → Type 0) (step : Files → Result A Status) (Next : A → Option Files → ℕ → Type 0) (old new : Tells) (status : Status)
+    → ReadsFiles {X = X} First old new (Err status) → ReadsFiles {X = Y} (Then First step Next) old new (Err status)
+reads_stopped {A} {X} {Y} First step Next old new status before = reads_failed {X = X} {Y = Y} (Then First step Next) First old new status (λ file at. inl at) before
+
+-- a step that reaches no more files than it says
+pub reads_among : {X : Type 0} (Those These : Option Files → ℕ → Type 0) (old new : Tells) (result : Result X Status) → ((file : ℕ) → These old.0 file → Those old.0 file)
+    → ReadsFiles These old new result → ReadsFiles Those old new result
+reads_among Those These old new (Ok x) among before = reads_ok Those old new x before.kept before.faults before.misses
+reads_among Those These old new (Err status) among before = reads_failed Those These old new status among before
 
 -- a step on what was read
-pub reads_then : {X Y : Type 0} (names others : Status → Type 0) (old new : Tells) (first : Result X Status) (result : Result Y Status)
-    → ((status : Status) → IsOfBytes status → names status) → ReadsFiles others old new first → IfErr result IsOfBytes → ReadsFiles names old new result
-reads_then names others old new first (Ok y) named before is =
-    record { kept = before.kept; faults = before.faults; misses = before.misses; cause = tt; status = tt; place = tt }
-reads_then names others old new first (Err status) named before is = record {
+pub reads_then : {X Y : Type 0} (Those These : Option Files → ℕ → Type 0) (old new : Tells) (first : Result X Status) (result : Result Y Status)
+    → ReadsFiles These old new first → IfErr result IsOfBytes → ReadsFiles Those old new result
+reads_then Those These old new first (Ok y) before is = reads_ok Those old new y before.kept before.faults before.misses
+reads_then Those These old new first (Err status) before is = record {
   kept = before.kept;
   faults = before.faults;
   misses = before.misses;
   cause = bytes_cause status old.0 old.1 new.1 old.2 new.2 is;
   status = bytes_files status is;
-  place = named status is;
+  place = bytes_at (Those old.0) status is;
 }
 
 -- a step that reads nothing
-pub reads_nothing : {X : Type 0} (names : Status → Type 0) (old : Tells) (result : Result X Status)
-    → ((status : Status) → IsOfBytes status → names status) → IfErr result IsOfBytes → ReadsFiles names old old result
-reads_nothing names old (Ok x) named is = record { kept = refl; faults = omega arith; misses = omega arith; cause = tt; status = tt; place = tt }
-reads_nothing names old (Err status) named is = record {
+pub reads_nothing : {X : Type 0} (Reaches : Option Files → ℕ → Type 0) (old : Tells) (result : Result X Status) → IfErr result IsOfBytes → ReadsFiles Reaches old old result
+reads_nothing Reaches old (Ok x) is = reads_ok Reaches old old x refl (omega arith) (omega arith)
+reads_nothing Reaches old (Err status) is = record {
   kept = refl;
   faults = omega arith;
   misses = omega arith;
   cause = bytes_cause status old.0 old.1 old.1 old.2 old.2 is;
   status = bytes_files status is;
-  place = named status is;
+  place = bytes_at (Reaches old.0) status is;
 }
 
 -- ---- what was made of what was read

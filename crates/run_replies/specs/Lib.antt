@@ -5,6 +5,7 @@ pub mod Given
 pub mod Jobs
 pub mod Outcome
 pub mod Parts
+pub mod Reaching
 pub mod Stores
 pub mod Telling
 pub mod Traces

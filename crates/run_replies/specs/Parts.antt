@@ -1,15 +1,10 @@
 -- What the parts of a run promise one another.
-use Rattle.std.specs.Prelude.{◌≡◌, ◌≤◌, ◌⊎◌, ℕ, map, Result, Ok, Err}
+use Rattle.std.specs.Prelude.{◌≡◌, ◌⊎◌, map, Result, Ok, Err}
 use Rattle.query_replies.specs.declared.answers.Replies.{Replies}
 use Rattle.run_replies.specs.Outcome.{IsDoneBy, Taken, Work}
 use Rattle.run_replies.specs.Traces.{IsNotTaken}
 use Rattle.run_status.specs.declared.status.Status.{Status}
 use Rattle.run_status.specs.declared.status.Status.TheVariants.{Done, SomeRefused, Usage, ReadFault, WriteFault, NoMemory, Limit, ReplayRefused, TableFault, OwnerFault, NotBuilt}
-
--- A read fault names one of these files.
-abbrev pub FailsAt : ℕ → ℕ → Status → Type 0
-FailsAt first last (ReadFault file) = (first ≤ file) × (file ≤ last)
-FailsAt first last status = Unit {0}
 
 -- What a part of the run between the words and the writing gives, against its definition.
 abbrev pub PartGives : {X Y : Type 0} → (X → Y) → Result X Status → Result Y Status → Type 0

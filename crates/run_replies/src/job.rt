@@ -2,11 +2,12 @@
 ghost use Rattle.std.specs.Prelude.{◌≡◌, IfOk, IfSome, length};
 ghost use Rattle.graph_tables.specs.Graph.{IsWhole};
 ghost use Rattle.partition.specs.Owners.{IsOwner};
-ghost use Rattle.run_replies.specs.Causes.{FailsAtFile};
 ghost use Rattle.run_replies.specs.Given.{IsGiven, job_seen};
 ghost use Rattle.run_replies.specs.Outcome.{job_of, job_of_graph, job_of_owner};
 ghost use Rattle.run_replies.specs.Parts.{PartGives};
+ghost use Rattle.run_replies.specs.Reaching.{IsFile, JobReaches, RestReaches};
 ghost use Rattle.run_replies.specs.Stores.{ReadsFiles};
+ghost use Rattle.run_replies.specs.declared.load.TheConstants.{QUERY_FILE};
 
 use crate::load::{Queries, load_owner, load_queries, load_tables};
 use adfs_base::Store;
@@ -36,7 +37,7 @@ fn load_last<S: Store>(
     requires owner { IsOwner owner (length graph.vertices) header.now.machines }
     ensures gives { IfSome (S.files store.old) (λ files. PartGives job_seen result (job_of_owner files header.now graph owner)) }
     ensures given { IfOk result (IsGiven header.now) }
-    ensures reads { ReadsFiles (FailsAtFile header.now.part) (S.files store.old, S.faults store.old, S.misses store.old) (S.files store.new, S.faults store.new, S.misses store.new) result }
+    ensures reads { ReadsFiles (IsFile QUERY_FILE) (S.files store.old, S.faults store.old, S.misses store.old) (S.files store.new, S.faults store.new, S.misses store.new) result }
 {
     match load_queries(alloc, store, header.queries.text()) {
         Ok(queries) => Ok(Given {
@@ -58,7 +59,7 @@ fn load_rest<S: Store>(
     requires { IsWhole graph }
     ensures gives { IfSome (S.files store.old) (λ files. PartGives job_seen result (job_of_graph files header.now graph)) }
     ensures given { IfOk result (IsGiven header.now) }
-    ensures reads { ReadsFiles (FailsAtFile header.now.part) (S.files store.old, S.faults store.old, S.misses store.old) (S.files store.new, S.faults store.new, S.misses store.new) result }
+    ensures reads { ReadsFiles (RestReaches header.now graph) (S.files store.old, S.faults store.old, S.misses store.old) (S.files store.new, S.faults store.new, S.misses store.new) result }
 {
     match load_owner(alloc, store, header, &graph) {
         Ok(owner) => load_last(alloc, store, header, graph, owner),
@@ -70,7 +71,7 @@ fn load_rest<S: Store>(
 pub fn load_given<S: Store>(alloc: Global, store: &mut S, header: &Header) -> Result<Given, Status>
     ensures gives { IfSome (S.files store.old) (λ files. PartGives job_seen result (job_of files header.now)) }
     ensures given { IfOk result (IsGiven header.now) }
-    ensures reads { ReadsFiles (FailsAtFile header.now.part) (S.files store.old, S.faults store.old, S.misses store.old) (S.files store.new, S.faults store.new, S.misses store.new) result }
+    ensures reads { ReadsFiles (JobReaches header.now) (S.files store.old, S.faults store.old, S.misses store.old) (S.files store.new, S.faults store.new, S.misses store.new) result }
 {
     match load_tables(alloc, store, header.manifest.text()) {
         Ok(graph) => load_rest(alloc, store, header, graph),

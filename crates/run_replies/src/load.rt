@@ -2,12 +2,12 @@
 ghost use Rattle.std.specs.Prelude.{◌≡◌, ◌≤◌, All, IfErr, IfOk, IfSome, length};
 ghost use Rattle.adfs_base.specs.Files.{file_of};
 ghost use Rattle.adfs_base.specs.declared.limits.TheConstants.{FILE_BYTES, QUERIES};
-ghost use Rattle.run_replies.specs.Causes.{FailsAtFile};
 ghost use Rattle.run_status.specs.Faults.{with_owner_status, with_status};
 ghost use Rattle.run_replies.specs.Given.{AreQueries};
 ghost use Rattle.run_replies.specs.Outcome as outcome;
 ghost use Rattle.run_replies.specs.Outcome.{few_places, file_bytes, listed_owner, owner_of, queries_of};
-ghost use Rattle.run_replies.specs.Parts.{FailsAt, IsOfBytes, PartGives};
+ghost use Rattle.run_replies.specs.Parts.{IsOfBytes, PartGives};
+ghost use Rattle.run_replies.specs.Reaching.{GraphReaches, IsFile, OwnerReaches};
 ghost use Rattle.run_replies.specs.Stores.{ReadsFiles};
 ghost use Rattle.graph_tables.specs.Graph.{IsWhole};
 ghost use Rattle.graph_loading.specs.Loaded.{loaded};
@@ -45,7 +45,7 @@ pub struct Queries {
 pub fn load_tables<S: Store>(alloc: Global, store: &mut S, manifest: &str) -> Result<Graph, Status>
     ensures gives { IfSome (S.files store.old) (λ files. PartGives (λ g. g) result (with_status (loaded files manifest.now))) }
     ensures whole { IfOk result IsWhole }
-    ensures reads { ReadsFiles (FailsAt 0 256) (S.files store.old, S.faults store.old, S.misses store.old) (S.files store.new, S.faults store.new, S.misses store.new) result }
+    ensures reads { ReadsFiles (GraphReaches manifest.now) (S.files store.old, S.faults store.old, S.misses store.old) (S.files store.new, S.faults store.new, S.misses store.new) result }
 {
     match load_graph(alloc, store, manifest) {
         Ok(graph) => Ok(graph),
@@ -62,7 +62,7 @@ pub fn load_file<S: Store>(
 ) -> Result<Vec<u8>, Status>
     ensures gives { IfSome (S.files store.old) (λ files. PartGives (λ v. v.items) result (file_bytes number (file_of name.now files))) }
     ensures short { IfOk result (λ v. length v.items ≤ FILE_BYTES) }
-    ensures reads { ReadsFiles (FailsAt number number) (S.files store.old, S.faults store.old, S.misses store.old) (S.files store.new, S.faults store.new, S.misses store.new) result }
+    ensures reads { ReadsFiles (IsFile number) (S.files store.old, S.faults store.old, S.misses store.old) (S.files store.new, S.faults store.new, S.misses store.new) result }
 {
     let mut bytes = Vec::new(alloc);
     match store.load(name, FILE_BYTES, &mut bytes) {
@@ -97,7 +97,7 @@ fn load_listed<S: Store>(
 ) -> Result<Owner, Status>
     ensures gives { IfSome (S.files store.old) (λ files. PartGives (λ owner. owner) result (listed_owner machines graph.now.vertices (file_of name.now files))) }
     ensures fits { IfOk result (λ owner. IsOwner owner (length graph.now.vertices) machines) }
-    ensures reads { ReadsFiles (FailsAt OWNER_FILE OWNER_FILE) (S.files store.old, S.faults store.old, S.misses store.old) (S.files store.new, S.faults store.new, S.misses store.new) result }
+    ensures reads { ReadsFiles (IsFile OWNER_FILE) (S.files store.old, S.faults store.old, S.misses store.old) (S.files store.new, S.faults store.new, S.misses store.new) result }
 {
     match load_file(alloc, store, OWNER_FILE, name) {
         Ok(bytes) => owner_in(alloc, &bytes, graph, machines),
@@ -114,7 +114,7 @@ pub fn load_owner<S: Store>(
 ) -> Result<Owner, Status>
     ensures gives { IfSome (S.files store.old) (λ files. PartGives (λ owner. owner) result (owner_of header.now.part header.now.machines files graph.now.vertices)) }
     ensures fits { IfOk result (λ owner. IsOwner owner (length graph.now.vertices) header.now.machines) }
-    ensures reads { ReadsFiles (FailsAtFile header.now.part) (S.files store.old, S.faults store.old, S.misses store.old) (S.files store.new, S.faults store.new, S.misses store.new) result }
+    ensures reads { ReadsFiles (OwnerReaches header.now.part) (S.files store.old, S.faults store.old, S.misses store.old) (S.files store.new, S.faults store.new, S.misses store.new) result }
 {
     match &header.part {
         PartWord::Modulo => Ok(Owner::Modulo),
@@ -155,7 +155,7 @@ fn queries_in(alloc: Global, text: Vec<u8>) -> Result<Queries, Status>
 pub fn load_queries<S: Store>(alloc: Global, store: &mut S, name: &str) -> Result<Queries, Status>
     ensures gives { IfSome (S.files store.old) (λ files. PartGives (λ queries. (queries.text.items, queries.places.items)) result (queries_of files name.now)) }
     ensures sound { IfOk result AreQueries }
-    ensures reads { ReadsFiles (FailsAt QUERY_FILE QUERY_FILE) (S.files store.old, S.faults store.old, S.misses store.old) (S.files store.new, S.faults store.new, S.misses store.new) result }
+    ensures reads { ReadsFiles (IsFile QUERY_FILE) (S.files store.old, S.faults store.old, S.misses store.old) (S.files store.new, S.faults store.new, S.misses store.new) result }
 {
     match load_file(alloc, store, QUERY_FILE, name) {
         Ok(text) => queries_in(alloc, text),

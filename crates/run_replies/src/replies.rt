@@ -8,10 +8,11 @@ ghost use Rattle.cli_words.specs.Help.{help_text};
 ghost use Rattle.cli_words.specs.Ranges.{IsWithinLimits};
 ghost use Rattle.cli_words.specs.declared.command.Command.TheVariants as command;
 ghost use Rattle.run_replies.specs.Asking.{IsAnswering};
-ghost use Rattle.run_replies.specs.Causes.{FailsAtCommand, FailsAtFile, FailsAtItsFile, FailsAtTrace, StoreCause, WordsGive};
+ghost use Rattle.run_replies.specs.Causes.{FailsAt, StoreCause, WordsGive};
 ghost use Rattle.run_replies.specs.Jobs.{IsInLimits};
 ghost use Rattle.run_replies.specs.Outcome.{Help, file_bytes, outcome_of, work_of, work_of_files, work_of_header, work_of_seed, work_of_trace};
 ghost use Rattle.run_replies.specs.Parts.{IsBeforePuts, IsOfBytes, RepliesGive};
+ghost use Rattle.run_replies.specs.Reaching.{CommandReaches, HeaderReaches, JobReaches, TraceReaches, WordsReach};
 ghost use Rattle.run_replies.specs.Stores.{ReadsFiles};
 ghost use Rattle.run_replies.specs.Telling.{with_memory};
 ghost use Rattle.run_replies.specs.Words.{AreSizes, IsSized, accepted};
@@ -86,7 +87,7 @@ fn answer_files<S: Store>(
     requires limits { IsInLimits header.now }
     requires answering { IsAnswering command }
     ensures gives { IfSome (S.files store.old) (λ files. RepliesGive result (work_of_files command files header.now)) }
-    ensures reads { ReadsFiles (FailsAtFile header.now.part) (S.files store.old, S.faults store.old, S.misses store.old) (S.files store.new, S.faults store.new, S.misses store.new) result }
+    ensures reads { ReadsFiles (JobReaches header.now) (S.files store.old, S.faults store.old, S.misses store.old) (S.files store.new, S.faults store.new, S.misses store.new) result }
 {
     match load_given(alloc, store, header) {
         Ok(given) => or_memory(answer_given(alloc, command, header, given)),
@@ -103,7 +104,7 @@ fn trace_files<S: Store>(
 ) -> Result<Replies, Status>
     requires limits { IsInLimits header.now }
     ensures gives { IfSome (S.files store.old) (λ files. RepliesGive result (work_of_files command.Trace files header.now)) }
-    ensures reads { ReadsFiles (FailsAtFile header.now.part) (S.files store.old, S.faults store.old, S.misses store.old) (S.files store.new, S.faults store.new, S.misses store.new) result }
+    ensures reads { ReadsFiles (JobReaches header.now) (S.files store.old, S.faults store.old, S.misses store.old) (S.files store.new, S.faults store.new, S.misses store.new) result }
 {
     match load_given(alloc, store, header) {
         Ok(given) => or_memory(trace_given(alloc, header, schedule, given)),
@@ -122,7 +123,7 @@ fn take_files<S: Store>(
     requires short { length events.bytes.now ≤ FILE_BYTES }
     requires follows { Follows events.bytes.now 5 events.from }
     ensures gives { IfSome (S.files store.old) (λ files. RepliesGive result (work_of_header files events.entry.bytes.now header.now)) }
-    ensures reads { ReadsFiles (FailsAtFile header.now.part) (S.files store.old, S.faults store.old, S.misses store.old) (S.files store.new, S.faults store.new, S.misses store.new) result }
+    ensures reads { ReadsFiles (JobReaches header.now) (S.files store.old, S.faults store.old, S.misses store.old) (S.files store.new, S.faults store.new, S.misses store.new) result }
 {
     match load_given(alloc, store, header) {
         Ok(given) => or_refused(take_given(alloc, header, events, given)),
@@ -134,7 +135,7 @@ fn take_files<S: Store>(
 fn take_bytes<S: Store>(alloc: Global, store: &mut S, bytes: &[u8]) -> Result<Replies, Status>
     requires { length bytes.now ≤ FILE_BYTES }
     ensures gives { IfSome (S.files store.old) (λ files. RepliesGive result (work_of_trace files bytes.now)) }
-    ensures reads { ReadsFiles FailsAtTrace (S.files store.old, S.faults store.old, S.misses store.old) (S.files store.new, S.faults store.new, S.misses store.new) result }
+    ensures reads { ReadsFiles (HeaderReaches bytes.now) (S.files store.old, S.faults store.old, S.misses store.old) (S.files store.new, S.faults store.new, S.misses store.new) result }
 {
     match read_header(alloc, bytes) {
         Ok((header, from)) => take_files(alloc, store, &header, Events { bytes, from }),
@@ -145,7 +146,7 @@ fn take_bytes<S: Store>(alloc: Global, store: &mut S, bytes: &[u8]) -> Result<Re
 // What is told of the trace of this name.
 fn take_trace<S: Store>(alloc: Global, store: &mut S, name: &str) -> Result<Replies, Status>
     ensures gives { IfSome (S.files store.old) (λ files. RepliesGive result (file_bytes TRACE_FILE (file_of name.now files) >>~ work_of_trace files)) }
-    ensures reads { ReadsFiles FailsAtTrace (S.files store.old, S.faults store.old, S.misses store.old) (S.files store.new, S.faults store.new, S.misses store.new) result }
+    ensures reads { ReadsFiles (TraceReaches name.now) (S.files store.old, S.faults store.old, S.misses store.old) (S.files store.new, S.faults store.new, S.misses store.new) result }
 {
     match load_file(alloc, store, TRACE_FILE, name) {
         Ok(bytes) => take_bytes(alloc, store, &bytes),
@@ -180,7 +181,7 @@ fn replies_of<S: Store>(alloc: Global, store: &mut S, options: Options) -> Resul
     requires limits { IsWithinLimits options }
     requires sizes { IsSized options }
     ensures gives { IfSome (S.files store.old) (λ files. RepliesGive result (work_of files options)) }
-    ensures reads { ReadsFiles (FailsAtCommand options.command options.part) (S.files store.old, S.faults store.old, S.misses store.old) (S.files store.new, S.faults store.new, S.misses store.new) result }
+    ensures reads { ReadsFiles (CommandReaches options.command options) (S.files store.old, S.faults store.old, S.misses store.old) (S.files store.new, S.faults store.new, S.misses store.new) result }
 {
     match options.command {
         Command::Run => answer_files(alloc, store, Command::Run, &header_of(options)),
@@ -206,7 +207,8 @@ pub fn replies_to<S: Store>(
     ensures words { IfErr result (λ status. WordsGive status (accepted (map string_bytes words.now))) }
     ensures cause { IfErr result (λ status. StoreCause status (S.files store.old) (S.faults store.old) (S.faults store.new) (S.misses store.old) (S.misses store.new)) }
     ensures status { IfErr result IsBeforePuts }
-    ensures place { IfErr result (FailsAtItsFile (accepted (map string_bytes words.now))) }
+    ensures place { IfErr result (FailsAt (WordsReach (accepted (map string_bytes words.now)) (S.files store.old))) }
+    ensures kept { S.files store.new ≡ S.files store.old }
 {
     match accepted(alloc, words) {
         Ok(options) => replies_of(alloc, store, options),

@@ -1,13 +1,11 @@
-use Rattle.std.proofs.Common.{Ok, arith}
+use Rattle.std.proofs.Common.{Ok}
 use Rattle.graph_loading.specs.Loaded.{loaded}
 use Rattle.run_status.specs.Faults.{with_status}
-use Rattle.run_replies.specs.Causes.{FailsAtFile}
 use Rattle.run_replies.specs.Given.{job_seen}
 use Rattle.run_replies.specs.Outcome.{job_of_graph}
-use Rattle.run_replies.specs.Parts.{FailsAt}
+use Rattle.run_replies.specs.Reaching.{GraphReaches, RestReaches}
 use Rattle.graph_tables.specs.Graph.{PropertyGraph}
-use Rattle.run_replies.proofs.Places.{at_run}
-use Rattle.run_replies.proofs.Steps.{part_fails_told, part_goes_on_told, reads_after, reads_failed}
+use Rattle.run_replies.proofs.Steps.{part_fails_told, part_goes_on_told, reads_after, reads_stopped}
 use Rattle.run_replies.proofs.job.load_given.Goals as goal
 
 pub returns-in-Ok-clause-gives : goal.returns-in-Ok-clause-gives
@@ -19,8 +17,9 @@ returns-in-Ok-clause-gives g c =
 
 pub returns-in-Ok-clause-reads : goal.returns-in-Ok-clause-reads
 returns-in-Ok-clause-reads g c =
-    let part = c.args.header.now.part in
-    reads_after (FailsAtFile part) (FailsAt 0 256) _ _ _ (Ok c.in-Ok.graph) c.load_rest.result c.in-Ok.ensures.reads c.load_rest.ensures.reads
+    let header = c.args.header.now in
+    reads_after (GraphReaches header.manifest) (λ told. with_status (loaded told header.manifest)) (RestReaches header) c.in-Ok.graph _ _ _ (Ok c.in-Ok.graph) c.load_rest.result
+    (rw c.text.ensures at c.in-Ok.ensures.gives) (rw c.text.ensures at c.in-Ok.ensures.reads) c.load_rest.ensures.reads
 
 pub returns-in-Err-clause-gives : goal.returns-in-Err-clause-gives
 returns-in-Err-clause-gives g c =
@@ -30,5 +29,5 @@ returns-in-Err-clause-gives g c =
 
 pub returns-in-Err-clause-reads : goal.returns-in-Err-clause-reads
 returns-in-Err-clause-reads g c =
-    let part = c.args.header.now.part in
-    reads_failed (FailsAtFile part) (FailsAt 0 256) _ _ c.in-Err.status (at_run part 0 256 c.in-Err.status (omega arith)) c.in-Err.ensures.reads
+    let header = c.args.header.now in
+    reads_stopped (GraphReaches header.manifest) (λ told. with_status (loaded told header.manifest)) (RestReaches header) _ _ c.in-Err.status (rw c.text.ensures at c.in-Err.ensures.reads)

@@ -1,10 +1,8 @@
-use Rattle.std.proofs.Common.{Ok, arith, refl}
-use Rattle.run_replies.specs.Causes.{FailsAtFile}
+use Rattle.std.proofs.Common.{Ok, refl}
 use Rattle.run_replies.specs.Given.{job_seen}
 use Rattle.run_replies.specs.Outcome.{job_with, queries_of}
-use Rattle.run_replies.specs.Parts.{FailsAt}
+use Rattle.run_replies.specs.Reaching.{IsFile}
 use Rattle.run_replies.specs.declared.load.Queries.{Queries}
-use Rattle.run_replies.proofs.Places.{at_run, bytes_at_run}
 use Rattle.run_replies.proofs.Steps.{part_fails_told, part_then_told, reads_failed, reads_then}
 use Rattle.run_replies.proofs.job.load_last.Goals as goal
 
@@ -16,9 +14,7 @@ returns-in-Ok-clause-gives g c =
     (rw c.text.ensures at c.in-Ok.ensures.gives) refl
 
 pub returns-in-Ok-clause-reads : goal.returns-in-Ok-clause-reads
-returns-in-Ok-clause-reads g c =
-    let part = c.args.header.now.part in
-    reads_then (FailsAtFile part) (FailsAt 257 257) _ _ (Ok c.in-Ok.queries) (Ok _) (bytes_at_run part) c.in-Ok.ensures.reads tt
+returns-in-Ok-clause-reads g c = reads_then (IsFile 257) (IsFile 257) _ _ (Ok c.in-Ok.queries) (Ok _) c.in-Ok.ensures.reads tt
 
 pub returns-in-Err-clause-gives : goal.returns-in-Err-clause-gives
 returns-in-Err-clause-gives g c =
@@ -26,6 +22,4 @@ returns-in-Err-clause-gives g c =
     (λ told queries. Ok (job_with c.args.graph c.args.owner queries)) (rw c.text.ensures at c.in-Err.ensures.gives)
 
 pub returns-in-Err-clause-reads : goal.returns-in-Err-clause-reads
-returns-in-Err-clause-reads g c =
-    let part = c.args.header.now.part in
-    reads_failed (FailsAtFile part) (FailsAt 257 257) _ _ c.in-Err.status (at_run part 257 257 c.in-Err.status (omega arith)) c.in-Err.ensures.reads
+returns-in-Err-clause-reads g c = reads_failed (IsFile 257) (IsFile 257) _ _ c.in-Err.status (λ file at. at) c.in-Err.ensures.reads

@@ -1,9 +1,9 @@
 use Rattle.std.proofs.Common.{Ok}
-use Rattle.run_replies.specs.Causes.{FailsAtFile}
 use Rattle.run_replies.specs.Given.{job_seen}
 use Rattle.run_replies.specs.Outcome.{job_of_owner, owner_of}
+use Rattle.run_replies.specs.Reaching.{IsFile, OwnerReaches}
 use Rattle.partition.specs.declared.owner.Owner.{Owner}
-use Rattle.run_replies.proofs.Steps.{part_fails_told, part_goes_on_told, reads_after, reads_failed}
+use Rattle.run_replies.proofs.Steps.{part_fails_told, part_goes_on_told, reads_after, reads_stopped}
 use Rattle.run_replies.proofs.job.load_rest.Goals as goal
 
 pub returns-in-Ok-clause-gives : goal.returns-in-Ok-clause-gives
@@ -15,8 +15,9 @@ returns-in-Ok-clause-gives g c =
 
 pub returns-in-Ok-clause-reads : goal.returns-in-Ok-clause-reads
 returns-in-Ok-clause-reads g c =
-    let part = c.args.header.now.part in
-    reads_after (FailsAtFile part) (FailsAtFile part) _ _ _ (Ok c.in-Ok.owner) c.load_last.result c.in-Ok.ensures.reads c.load_last.ensures.reads
+    let header = c.args.header.now in
+    reads_after (OwnerReaches header.part) (λ told. owner_of header.part header.machines told c.args.graph.vertices) (λ owner. IsFile 257) c.in-Ok.owner _ _ _ (Ok c.in-Ok.owner) c.load_last.result
+    c.in-Ok.ensures.gives c.in-Ok.ensures.reads c.load_last.ensures.reads
 
 pub returns-in-Err-clause-gives : goal.returns-in-Err-clause-gives
 returns-in-Err-clause-gives g c =
@@ -26,5 +27,5 @@ returns-in-Err-clause-gives g c =
 
 pub returns-in-Err-clause-reads : goal.returns-in-Err-clause-reads
 returns-in-Err-clause-reads g c =
-    let part = c.args.header.now.part in
-    reads_failed (FailsAtFile part) (FailsAtFile part) _ _ c.in-Err.status (λ at. at) c.in-Err.ensures.reads
+    let header = c.args.header.now in
+    reads_stopped (OwnerReaches header.part) (λ told. owner_of header.part header.machines told c.args.graph.vertices) (λ owner. IsFile 257) _ _ c.in-Err.status c.in-Err.ensures.reads

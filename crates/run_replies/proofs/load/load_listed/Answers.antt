@@ -3,9 +3,8 @@ use Rattle.adfs_base.specs.Files.{file_of}
 use Rattle.partition.specs.OwnerFile.{owners_of}
 use Rattle.run_status.specs.Faults.{with_owner_status}
 use Rattle.run_replies.specs.Outcome.{file_bytes}
-use Rattle.run_replies.specs.Parts.{FailsAt}
+use Rattle.run_replies.specs.Reaching.{IsFile}
 use Rattle.partition.specs.declared.owner.Owner.{Owner}
-use Rattle.run_replies.proofs.Places.{bytes_at}
 use Rattle.run_replies.proofs.Steps.{part_fails_told, part_then_told, reads_failed, reads_then}
 use Rattle.run_replies.proofs.load.load_listed.Goals as goal
 
@@ -16,7 +15,7 @@ returns-in-Ok-clause-gives g c =
 
 pub returns-in-Ok-clause-reads : goal.returns-in-Ok-clause-reads
 returns-in-Ok-clause-reads g c =
-    reads_then (FailsAt 259 259) (FailsAt 259 259) _ _ (Ok c.in-Ok.bytes) c.owner_in.result (bytes_at 259 259) c.in-Ok.ensures.reads c.owner_in.ensures.status
+    reads_then (IsFile 259) (IsFile 259) _ _ (Ok c.in-Ok.bytes) c.owner_in.result c.in-Ok.ensures.reads c.owner_in.ensures.status
 
 pub returns-in-Err-clause-gives : goal.returns-in-Err-clause-gives
 returns-in-Err-clause-gives g c =
@@ -24,4 +23,4 @@ returns-in-Err-clause-gives g c =
     (λ told bytes. with_owner_status (owners_of bytes c.args.graph.now.vertices c.args.machines)) c.in-Err.ensures.gives
 
 pub returns-in-Err-clause-reads : goal.returns-in-Err-clause-reads
-returns-in-Err-clause-reads g c = reads_failed (FailsAt 259 259) (FailsAt 259 259) _ _ c.in-Err.status (λ at. at) c.in-Err.ensures.reads
+returns-in-Err-clause-reads g c = reads_failed (IsFile 259) (IsFile 259) _ _ c.in-Err.status (λ file at. at) c.in-Err.ensures.reads

@@ -1,9 +1,8 @@
 use Rattle.std.proofs.Common.{Ok, ℕ, Global, Vec}
 use Rattle.adfs_base.specs.Files.{file_of}
 use Rattle.run_replies.specs.Outcome.{file_bytes, queries_in}
-use Rattle.run_replies.specs.Parts.{FailsAt}
+use Rattle.run_replies.specs.Reaching.{IsFile}
 use Rattle.run_replies.specs.declared.load.Queries.{Queries}
-use Rattle.run_replies.proofs.Places.{bytes_at}
 use Rattle.run_replies.proofs.Steps.{part_fails_told, part_then_told, reads_failed, reads_then}
 use Rattle.run_replies.proofs.load.load_queries.Goals as goal
 
@@ -14,7 +13,7 @@ returns-in-Ok-clause-gives g c =
 
 pub returns-in-Ok-clause-reads : goal.returns-in-Ok-clause-reads
 returns-in-Ok-clause-reads g c =
-    reads_then (FailsAt 257 257) (FailsAt 257 257) _ _ (Ok c.in-Ok.text) c.queries_in.result (bytes_at 257 257) c.in-Ok.ensures.reads c.queries_in.ensures.status
+    reads_then (IsFile 257) (IsFile 257) _ _ (Ok c.in-Ok.text) c.queries_in.result c.in-Ok.ensures.reads c.queries_in.ensures.status
 
 pub returns-in-Err-clause-gives : goal.returns-in-Err-clause-gives
 returns-in-Err-clause-gives g c =
@@ -22,4 +21,4 @@ returns-in-Err-clause-gives g c =
     (λ told. queries_in) c.in-Err.ensures.gives
 
 pub returns-in-Err-clause-reads : goal.returns-in-Err-clause-reads
-returns-in-Err-clause-reads g c = reads_failed (FailsAt 257 257) (FailsAt 257 257) _ _ c.in-Err.status (λ at. at) c.in-Err.ensures.reads
+returns-in-Err-clause-reads g c = reads_failed (IsFile 257) (IsFile 257) _ _ c.in-Err.status (λ file at. at) c.in-Err.ensures.reads

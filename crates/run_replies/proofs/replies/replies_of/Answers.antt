@@ -1,9 +1,9 @@
 use Rattle.std.proofs.Common.{IfSome, subst, sym}
 use Rattle.cli_words.specs.declared.command.Command.TheVariants as command
-use Rattle.run_replies.specs.Causes.{FailsNowhere}
 use Rattle.run_replies.specs.Outcome.{work_of_command}
 use Rattle.run_replies.specs.Parts.{RepliesGive}
-use Rattle.run_replies.proofs.Places.{bytes_nowhere, command_reads}
+use Rattle.run_replies.specs.Reaching.{CommandReaches}
+use Rattle.run_replies.proofs.Places.{command_reads}
 use Rattle.run_replies.proofs.Steps.{any_files, reads_nothing}
 use Rattle.run_replies.proofs.replies.replies_of.Goals as goal
 
@@ -37,7 +37,7 @@ returns-in-Replay-clause-gives g c =
     (rw c.trace_name.ensures at c.take_trace.ensures.gives)
 
 pub returns-in-Replay-clause-reads : goal.returns-in-Replay-clause-reads
-returns-in-Replay-clause-reads g c = command_reads command.Replay c.args.options _ _ c.take_trace.result c.in-Replay.is c.take_trace.ensures.reads
+returns-in-Replay-clause-reads g c = command_reads command.Replay c.args.options _ _ c.take_trace.result c.in-Replay.is (rw c.trace_name.ensures at c.take_trace.ensures.reads)
 
 pub returns-in-Gen-clause-gives : goal.returns-in-Gen-clause-gives
 returns-in-Gen-clause-gives g c =
@@ -45,7 +45,7 @@ returns-in-Gen-clause-gives g c =
     (any_files (g.S.Store.files c.args.store.now) c.generate.result _ c.generate.ensures.gives)
 
 pub returns-in-Gen-clause-reads : goal.returns-in-Gen-clause-reads
-returns-in-Gen-clause-reads g c = command_reads command.Gen c.args.options _ _ c.generate.result c.in-Gen.is (reads_nothing FailsNowhere _ c.generate.result bytes_nowhere c.generate.ensures.status)
+returns-in-Gen-clause-reads g c = command_reads command.Gen c.args.options _ _ c.generate.result c.in-Gen.is (reads_nothing (CommandReaches command.Gen c.args.options) _ c.generate.result c.generate.ensures.status)
 
 pub generate-requires-clause-sizes : goal.generate-requires-clause-sizes
 generate-requires-clause-sizes g c = c.requires.sizes c.in-Gen.is
@@ -56,4 +56,4 @@ returns-in-Help-clause-gives g c =
     (any_files (g.S.Store.files c.args.store.now) c.help.result _ c.help.ensures.gives)
 
 pub returns-in-Help-clause-reads : goal.returns-in-Help-clause-reads
-returns-in-Help-clause-reads g c = command_reads command.Help c.args.options _ _ c.help.result c.in-Help.is (reads_nothing FailsNowhere _ c.help.result bytes_nowhere c.help.ensures.status)
+returns-in-Help-clause-reads g c = command_reads command.Help c.args.options _ _ c.help.result c.in-Help.is (reads_nothing (CommandReaches command.Help c.args.options) _ c.help.result c.help.ensures.status)

@@ -25,7 +25,10 @@ returns-in-Ok-clause-status g c = before_by c.replies_of.result c.replies_of.ens
 
 pub returns-in-Ok-clause-place : goal.returns-in-Ok-clause-place
 returns-in-Ok-clause-place g c =
-    place_of_words (accepted (map string_bytes c.args.words.now)) c.in-Ok.options c.replies_of.result c.in-Ok.ensures.gives c.replies_of.ensures.reads.place
+    place_of_words (accepted (map string_bytes c.args.words.now)) c.in-Ok.options (g.S.Store.files c.args.store.now) c.replies_of.result c.in-Ok.ensures.gives c.replies_of.ensures.reads.place
+
+pub returns-in-Ok-clause-kept : goal.returns-in-Ok-clause-kept
+returns-in-Ok-clause-kept g c = c.replies_of.ensures.reads.kept
 
 pub returns-in-Err-clause-gives : goal.returns-in-Err-clause-gives
 returns-in-Err-clause-gives g c =
@@ -41,4 +44,4 @@ pub returns-in-Err-clause-status : goal.returns-in-Err-clause-status
 returns-in-Err-clause-status g c = words_before c.in-Err.status c.in-Err.ensures.status
 
 pub returns-in-Err-clause-place : goal.returns-in-Err-clause-place
-returns-in-Err-clause-place g c = words_nowhere (accepted (map string_bytes c.args.words.now)) c.in-Err.status c.in-Err.ensures.status
+returns-in-Err-clause-place g c = words_nowhere _ c.in-Err.status c.in-Err.ensures.status

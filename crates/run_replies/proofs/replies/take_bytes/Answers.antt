@@ -2,12 +2,11 @@ use Rattle.std.proofs.Common.{ap, subst, sym, Err}
 use Rattle.std.specs.Str.Lines.{lines}
 use Rattle.run_status.specs.Faults.{status_of_replay, with_replay_status}
 use Rattle.trace_text.specs.Headers.{header_of}
-use Rattle.run_replies.specs.Causes.{FailsAtFile, FailsAtTrace}
 use Rattle.run_replies.specs.Outcome.{work_of_header}
+use Rattle.run_replies.specs.Reaching.{HeaderReaches, JobReaches}
 use Rattle.run_replies.proofs.Limits.{limits_of}
-use Rattle.run_replies.proofs.Places.{bytes_at_trace, run_at_trace}
 use Rattle.run_replies.proofs.Replays.{fault_bytes, header_fails_told}
-use Rattle.run_replies.proofs.Steps.{reads_named, reads_nothing, words_go_on_told}
+use Rattle.run_replies.proofs.Steps.{reads_among, reads_nothing, words_go_on_told}
 use Rattle.run_replies.proofs.replies.take_bytes.Goals as goal
 
 pub take_files-requires-clause-limits : goal.take_files-requires-clause-limits
@@ -21,8 +20,8 @@ returns-in-Ok-clause-gives g c =
 
 pub returns-in-Ok-clause-reads : goal.returns-in-Ok-clause-reads
 returns-in-Ok-clause-reads g c =
-    let part = c.in-Ok.header.part in
-    reads_named FailsAtTrace (FailsAtFile part) _ _ c.take_files.result (run_at_trace part) c.take_files.ensures.reads
+    let header = c.in-Ok.header in
+    reads_among (HeaderReaches c.args.bytes.now) (JobReaches header) _ _ c.take_files.result (λ file at. (header, c.in-Ok.ensures.exact, at)) c.take_files.ensures.reads
 
 pub returns-in-Err-clause-gives : goal.returns-in-Err-clause-gives
 returns-in-Err-clause-gives g c =
@@ -31,4 +30,4 @@ returns-in-Err-clause-gives g c =
     (header_fails_told (g.S.Store.files c.args.store.now) c.in-Err.fault (header_of (lines bytes)) (λ told header. work_of_header told bytes header) c.in-Err.ensures.exact)
 
 pub returns-in-Err-clause-reads : goal.returns-in-Err-clause-reads
-returns-in-Err-clause-reads g c = reads_nothing FailsAtTrace _ (Err c.status_of_replay.result) bytes_at_trace (rw c.status_of_replay.ensures (fault_bytes c.in-Err.fault))
+returns-in-Err-clause-reads g c = reads_nothing (HeaderReaches c.args.bytes.now) _ (Err c.status_of_replay.result) (rw c.status_of_replay.ensures (fault_bytes c.in-Err.fault))

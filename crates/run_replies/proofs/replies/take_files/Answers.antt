@@ -1,8 +1,7 @@
 use Rattle.std.proofs.Common.{Ok}
-use Rattle.run_replies.specs.Causes.{FailsAtFile}
 use Rattle.run_replies.specs.Given.{job_seen}
 use Rattle.run_replies.specs.Outcome.{Taken, job_of}
-use Rattle.run_replies.proofs.Places.{bytes_at_run}
+use Rattle.run_replies.specs.Reaching.{JobReaches}
 use Rattle.run_replies.proofs.Replays.{told_bytes, told_gives}
 use Rattle.run_replies.proofs.Steps.{reads_failed, reads_then, replies_fail_told, work_given}
 use Rattle.run_replies.proofs.replies.take_files.Goals as goal
@@ -16,8 +15,8 @@ returns-in-Ok-clause-gives g c =
 
 pub returns-in-Ok-clause-reads : goal.returns-in-Ok-clause-reads
 returns-in-Ok-clause-reads g c =
-    let part = c.args.header.now.part in
-    reads_then (FailsAtFile part) (FailsAtFile part) _ _ (Ok c.in-Ok.given) c.or_refused.result (bytes_at_run part) c.in-Ok.ensures.reads (rw c.or_refused.ensures (told_bytes c.take_given.result))
+    let header = c.args.header.now in
+    reads_then (JobReaches header) (JobReaches header) _ _ (Ok c.in-Ok.given) c.or_refused.result c.in-Ok.ensures.reads (rw c.or_refused.ensures (told_bytes c.take_given.result))
 
 pub returns-in-Err-clause-gives : goal.returns-in-Err-clause-gives
 returns-in-Err-clause-gives g c =
@@ -26,5 +25,5 @@ returns-in-Err-clause-gives g c =
 
 pub returns-in-Err-clause-reads : goal.returns-in-Err-clause-reads
 returns-in-Err-clause-reads g c =
-    let part = c.args.header.now.part in
-    reads_failed (FailsAtFile part) (FailsAtFile part) _ _ c.in-Err.status (λ at. at) c.in-Err.ensures.reads
+    let header = c.args.header.now in
+    reads_failed (JobReaches header) (JobReaches header) _ _ c.in-Err.status (λ file at. at) c.in-Err.ensures.reads
