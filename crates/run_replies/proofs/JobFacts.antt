@@ -1,5 +1,5 @@
 -- What the queries of a run are answered over, and that their replies do the work.
-use Rattle.std.proofs.Common.{◌≡◌, ℕ, ◌<◌, ◌≤◌, ◌^◌, Bool, List, length, Result, Ok, Err, IfOk, sym, subst, ◌∙◌, arith}
+use Rattle.std.proofs.Common.{◌≡◌, ℕ, ◌<◌, ◌^◌, Bool, List, length, Result, Ok, Err, IfOk, sym, subst, ◌∙◌, arith}
 use Rattle.std.specs.List.{AllByRecursion}
 use Rattle.adfs_base.specs.declared.name.NoMemory.{NoMemory}
 use Rattle.cli_words.specs.declared.command.Command.{Command}

@@ -1,5 +1,5 @@
 -- What a trace that is taken again comes to, as a status.
-use Rattle.std.proofs.Common.{◌≡◌, ℕ, ap, List, map, refl, inl, inr, Option, Some, None, Result, Ok, Err, IfErr, IfSome}
+use Rattle.std.proofs.Common.{ℕ, List, refl, inl, inr, Option, Some, None, Result, Ok, Err, IfErr, IfSome}
 use Rattle.query_replies.specs.declared.answers.Replies.{Replies}
 use Rattle.run_status.specs.Faults.{status_of_replay, with_replay_status}
 use Rattle.run_status.specs.Steps.{◌>>~◌}

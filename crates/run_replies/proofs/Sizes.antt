@@ -1,11 +1,10 @@
 -- What the words of `gen` say is in its range.
-use Rattle.std.proofs.Common.{◌≡◌, ◌∙◌, ◌+◌, ◌*◌, ◌++◌, ◌≤◌, ◌&&◌, nat_le, arith, cond, refl, sym, subst, ℕ, Bool, true, false, List, [], ◌∷◌, Option, Some, None, Result, Ok, Err}
+use Rattle.std.proofs.Common.{◌≡◌, ◌∙◌, ◌+◌, ◌*◌, ◌++◌, ◌≤◌, ◌&&◌, nat_le, arith, cond, refl, sym, subst, ℕ, Bool, true, false, List, [], ◌∷◌, Option, Some, None, Ok}
 use Rattle.std.specs.Prelude.{slice_get, slice_index, ok_or, option_and_then, option_map, ◌==◌, ◌^◌, ◌-◌}
 use Rattle.std.specs.List.{remove}
 use Rattle.std.proofs.lemmas.Bool.Decides.{nat_tests}
-use Rattle.std.proofs.lemmas.Grind.{common_steps}
 use Rattle.cli_words.specs.Form.{finished, finished_by, options_of, place_of, read_after, read_at, read_by, read_cut, read_file, read_file_as, read_named, read_on, read_option, read_value, read_word}
-use Rattle.cli_words.specs.Rows.{command_named, file_words_of}
+use Rattle.cli_words.specs.Rows.{command_named}
 use Rattle.cli_words.specs.Said.{Said, at_first}
 use Rattle.cli_words.specs.Values.{cut_at, is_file_text, number_in, number_of, part_of, with_file, with_file_word, with_setting, within}
 use Rattle.cli_words.specs.declared.command.Command.{Command}

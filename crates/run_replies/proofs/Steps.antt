@@ -1,9 +1,8 @@
 -- A run whose first step went well, by what its second step gave.
-use Rattle.std.proofs.Common.{◌≡◌, ℕ, ◌+◌, ◌-◌, ◌≤◌, min, List, ◌∷◌, map, ap, sym, ◌∙◌, Option, Some, None, Result, Ok, Err, IsOk, ◌⊎◌, inl, inr, IfOk, IfSome, IfErr, MatchOption, arith, subst, refl}
+use Rattle.std.proofs.Common.{◌≡◌, ℕ, ◌≤◌, map, ap, ◌∙◌, Option, Some, None, Result, Ok, Err, inl, inr, IfOk, IfSome, IfErr, MatchOption, arith, subst, refl}
 use Rattle.adfs_base.specs.Counts.{Rose}
 use Rattle.adfs_base.specs.Files.{Files}
 use Rattle.adfs_base.specs.declared.name.NoMemory.{NoMemory as OutOfMemory}
-use Rattle.cli_words.specs.declared.options.Options.{Options}
 use Rattle.generated_reply.specs.Summary.{Summarizes}
 use Rattle.graph_tables.specs.Graph.{PropertyGraph}
 use Rattle.graph_tables.specs.declared.faults.TableFault.{TableFault}

@@ -1,5 +1,5 @@
 -- The first query of a job: what it comes to, its trace, and what is told of a trace taken again.
-use Rattle.std.proofs.Common.{◌≡◌, ℕ, Bool, true, false, List, [], ◌∷◌, length, drop, map, Option, Some, None, Result, Ok, Err, IfOk, ◌⊎◌, inl, inr, refl, sym, ap, subst, ◌∙◌, Global, Vec}
+use Rattle.std.proofs.Common.{◌≡◌, ℕ, Bool, true, false, List, [], ◌∷◌, length, drop, map, Option, Some, None, Result, Ok, Err, IfOk, inl, inr, refl, sym, ap, subst, ◌∙◌, Global, Vec}
 use Rattle.std.specs.Str.Lines.{lines}
 use Rattle.adfs_base.specs.Shape.{Extents}
 use Rattle.adfs_base.specs.declared.name.NoMemory.{NoMemory}
@@ -24,20 +24,17 @@ use Rattle.run_trace.specs.Replay.{replayed}
 use Rattle.run_trace.specs.Runs.{begun}
 use Rattle.run_trace.specs.declared.replaying.Replayed.{Replayed}
 use Rattle.serial_run.specs.Engines.{HasItsValues}
-use Rattle.stage_plan.specs.Plans.{plan_of, planned}
 use Rattle.trace_text.specs.Faults.{Gives}
 use Rattle.trace_text.specs.declared.fault.ReplayFault.{ReplayFault}
 use Rattle.trace_text.specs.declared.fault.ReplayFault.TheVariants as fault
 use Rattle.trace_text.specs.declared.header.Header.{Header}
-use Rattle.typed_query.specs.declared.query.Query.{Query}
 use Rattle.world_core.specs.World.{start_world}
 use Rattle.value_text.specs.Texts.{Kept}
 use Rattle.run_replies.specs.Firsts.{IsAsking, IsFirst, IsFirstVerdict, first_of}
 use Rattle.run_replies.specs.Jobs.{Job, schema_of, shape_of, without_texts}
 use Rattle.run_replies.specs.Telling.{IsToldAlone, QueryTaken, TakenGives}
-use Rattle.run_replies.specs.Traces.{AnswersFirst, IsNotTaken, IsNotTold, IsRefusedBy, IsTaken, IsToldOf, IsTraceOf, Means, shape_on, told_on, tree_on}
+use Rattle.run_replies.specs.Traces.{AnswersFirst, IsNotTaken, IsNotTold, IsTaken, IsToldOf, IsTraceOf, Means, shape_on, told_on, tree_on}
 use Rattle.run_replies.specs.declared.first.Asking.{Asking}
-use Rattle.run_replies.specs.declared.first.First.{First}
 use Rattle.run_replies.specs.declared.first.First.TheVariants.{Absent, Asked, Refused}
 
 -- ---- what it comes to

@@ -12,7 +12,6 @@ use Rattle.generated_reply.specs.Summary.{Summarizes}
 use Rattle.graph_gen.specs.Files.{generated_files}
 use Rattle.graph_tables.specs.Graph.{PropertyGraph, Vertex}
 use Rattle.graph_loading.specs.Loaded.{loaded}
-use Rattle.graph_tables.specs.Properties.{SchemaLists}
 use Rattle.graph_tables.specs.declared.faults.Quantity.TheVariants as quantity
 use Rattle.partition.specs.OwnerFile.{owners_of}
 use Rattle.partition.specs.declared.owner.Owner.{Owner}

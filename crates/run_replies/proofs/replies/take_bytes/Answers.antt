@@ -1,6 +1,6 @@
-use Rattle.std.proofs.Common.{ap, subst, sym, Err}
+use Rattle.std.proofs.Common.{ap, Err}
 use Rattle.std.specs.Str.Lines.{lines}
-use Rattle.run_status.specs.Faults.{status_of_replay, with_replay_status}
+use Rattle.run_status.specs.Faults.{with_replay_status}
 use Rattle.trace_text.specs.Headers.{header_of}
 use Rattle.run_replies.specs.Outcome.{work_of_header}
 use Rattle.run_replies.specs.Reaching.{HeaderReaches, JobReaches}

@@ -1,6 +1,6 @@
 use Rattle.run_replies.specs.Given.{job_seen}
 use Rattle.run_replies.specs.Traces.{IsToldOf}
-use Rattle.run_replies.proofs.Tracing.{alone_by, asked_of_first, line_put, none_put, owned_by, put_alone}
+use Rattle.run_replies.proofs.Tracing.{alone_by, asked_of_first, none_put, owned_by}
 use Rattle.run_replies.proofs.traces.take_given.Goals as goal
 
 pub take_query-requires-clause-owned : goal.take_query-requires-clause-owned
