@@ -4,9 +4,6 @@ use Rattle.std.specs.Fmt.{decimal}
 use Rattle.std.specs.List.{flat_map}
 use Rattle.std.proofs.lemmas.List.{get_or-map, length-map, take-map}
 use Rattle.adfs_base.specs.Bytes.{TookFront}
-use Rattle.adfs_base.specs.declared.part_word.PartWord.{PartWord}
-use Rattle.cli_words.specs.declared.command.Command.{Command}
-use Rattle.cli_words.specs.declared.command.Command.TheVariants as command
 use Rattle.cli_words.specs.declared.options.Options.{Options}
 use Rattle.generated_reply.specs.Summary.{made_text}
 use Rattle.graph_tables.specs.Graph.{PropertyGraph}
@@ -21,7 +18,7 @@ use Rattle.result_collect.specs.Replies as reply_texts
 use Rattle.result_collect.specs.Replies.{names_text, row_text}
 use Rattle.result_collect.specs.declared.refusal.Refusal.{Refusal}
 use Rattle.result_collect.specs.declared.refusal.Refusal.TheVariants.{At, NeedsMore, TooWide}
-use Rattle.run_replies.specs.Causes.{FailsAtCommand, FailsAtFile, FailsAtItsFile, FailsAtTrace, FailsNowhere, StoreCause, WordsGive}
+use Rattle.run_replies.specs.Causes.{FailsAt, StoreCause, WordsGive}
 use Rattle.run_replies.specs.Jobs.{Job, schema_of, without_texts}
 use Rattle.run_replies.specs.Outcome.{Answers, Generated, Help, IsDoneBy, Plans, Taken, Traced, Work}
 use Rattle.run_replies.specs.Parts.{IsBeforePuts, RepliesGive}
@@ -228,30 +225,9 @@ ends_quiet (Limit quantity number) replies old new ends = absurd ends
 ends_quiet (ReplayRefused line code guard) replies old new ends = absurd ends
 ends_quiet (NotBuilt what) replies old new ends = absurd ends
 
-ends_file : (word : PartWord) (status : Status) (replies : Replies) (old new : Told) → EndsPuts status replies old new → FailsAtFile word status
-ends_file word (ReadFault file) replies old new ends = absurd ends
-ends_file word status replies old new ends = tt
-
-ends_trace : (status : Status) (replies : Replies) (old new : Told) → EndsPuts status replies old new → FailsAtTrace status
-ends_trace (ReadFault file) replies old new ends = absurd ends
-ends_trace status replies old new ends = tt
-
-ends_nowhere : (status : Status) (replies : Replies) (old new : Told) → EndsPuts status replies old new → FailsNowhere status
-ends_nowhere (ReadFault file) replies old new ends = absurd ends
-ends_nowhere status replies old new ends = tt
-
-ends_command : (asking : Command) (word : PartWord) (status : Status) (replies : Replies) (old new : Told) → EndsPuts status replies old new → FailsAtCommand asking word status
-ends_command command.Run word status replies old new ends = ends_file word status replies old new ends
-ends_command command.Trace word status replies old new ends = ends_file word status replies old new ends
-ends_command command.Plan word status replies old new ends = ends_file word status replies old new ends
-ends_command command.Replay word status replies old new ends = ends_trace status replies old new ends
-ends_command command.Gen word status replies old new ends = ends_nowhere status replies old new ends
-ends_command command.Help word status replies old new ends = ends_nowhere status replies old new ends
-
-pub ends_place : (words : Result Options Status) (status : Status) (replies : Replies) (old new : Told) → EndsPuts status replies old new → FailsAtItsFile words status
-ends_place (Ok options) status replies old new ends = ends_command options.command options.part status replies old new ends
-ends_place (Err e) (ReadFault file) replies old new ends = absurd ends
-ends_place (Err e) status replies old new ends = tt
+pub ends_place : (Reaches : ℕ → Type 0) (status : Status) (replies : Replies) (old new : Told) → EndsPuts status replies old new → FailsAt Reaches status
+ends_place Reaches (ReadFault file) replies old new ends = absurd ends
+ends_place Reaches status replies old new ends = tt
 
 pub ends_words : (status : Status) (replies : Replies) (old new : Told) (words : Result Options Status) → IsOk words → EndsPuts status replies old new → WordsGive status words
 ends_words (Usage word) replies old new words ok ends = absurd ends

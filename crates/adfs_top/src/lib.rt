@@ -11,9 +11,9 @@
 //! (run_replies/specs/Causes.antt): `Usage`, `NotBuilt`, `TableFault`, `OwnerFault`, `Missing` and `Limit` exactly by
 //! `outcome_of`, `SomeRefused` exactly where a query is refused, `ReplayRefused` exactly where the trace can't be taken
 //! again, with its line, code and guard; a read or write fault only where the store's or the sink's count of faults rose in
-//! the call. A read fault has the number of the manifest, a table or the query file, or of the owner file where the words
-//! name one; `replay` may name any of these and the trace, and `gen` and `help` read nothing. Out of memory alone may come
-//! at any time.
+//! the call. A read fault names a file that was to be loaded (`WordsReach`, run_replies/specs/Reaching.antt): the loads go in
+//! their order, and where the files are told, all those before it go well. `gen` and `help` read nothing. Out of memory alone
+//! may come at any time. The store's files stay.
 #![tactic(auto)]
 
 mod put;

@@ -2,8 +2,9 @@
 ghost use Rattle.std.specs.Prelude.{◌≡◌, IfSome, map};
 ghost use Rattle.std.specs.String.{string_bytes};
 ghost use Rattle.adfs_base.specs.Counts.{Rose};
-ghost use Rattle.run_replies.specs.Causes.{FailsAtItsFile, StoreCause, WordsGive};
+ghost use Rattle.run_replies.specs.Causes.{FailsAt, StoreCause, WordsGive};
 ghost use Rattle.run_replies.specs.Outcome.{outcome_of};
+ghost use Rattle.run_replies.specs.Reaching.{WordsReach};
 ghost use Rattle.adfs_top.specs.Puts.{Puts, PutsNothing};
 ghost use Rattle.run_replies.specs.Words.{accepted};
 
@@ -35,8 +36,10 @@ pub fn adfs_run_serial<S: Store, O: Sink>(
     // Faults come only where they were met in this call.
     ensures store { StoreCause result (S.files store.old) (S.faults store.old) (S.faults store.new) (S.misses store.old) (S.misses store.new) }
     ensures write { result ≡ Status.WriteFault → Rose (O.faults out.old) (O.faults out.new) }
-    // A read fault names a file that the command reads.
-    ensures place { FailsAtItsFile (accepted (map string_bytes words.now)) result }
+    // A read fault names a file that the words come to: all that they load before it loads well.
+    ensures place { FailsAt (WordsReach (accepted (map string_bytes words.now)) (S.files store.old)) result }
+    // The store's files stay.
+    ensures kept { S.files store.new ≡ S.files store.old }
 {
     match replies_to(alloc, words, store) {
         Err(status) => status,
