@@ -1,4 +1,4 @@
-use Rattle.std.proofs.Common.{◌≡◌, ◌<◌, length, refl, rules}
+use Rattle.std.proofs.Common.{◌≡◌, ◌<◌, length, rules}
 use Rattle.adfs_base.specs.declared.sink.Put.TheVariants.{Failed}
 use Rattle.adfs_top.proofs.Ends.{stops_at}
 use Rattle.adfs_top.proofs.put.put_all.Goals as goal
