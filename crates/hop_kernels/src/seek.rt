@@ -221,16 +221,18 @@ fn put_child(ground: &Ground<'_>, gains: &Gains, step: Step, entry: Link, frame:
     requires entry { option_map link_of_entry (entry_at step.out ground.now.part.now step.place step.number) ≡ Some entry }
     ensures { frame.new ≡ record frame.old { wait = Some (record { words = child_words ground.now.query.now gains.now step.edge step.to frame.old.context.words (entry_in step.out ground.now.part.now step.place step.number) }, entry.machine) } }
 {
-    let mut child = frame.context;
-    bind(&mut child.words, step, entry);
-    write(
-        ground.part,
-        ground.query,
-        step.spot(),
-        gains.captures.as_slice(),
-        &mut child.words,
-    );
-    frame.wait = Some((child, entry.machine));
+    frame.wait = Some((frame.context, entry.machine));
+    // It is written where it waits, so that the context is copied once.
+    if let Some((child, _)) = &mut frame.wait {
+        bind(&mut child.words, step, entry);
+        write(
+            ground.part,
+            ground.query,
+            step.spot(),
+            gains.captures.as_slice(),
+            &mut child.words,
+        );
+    }
 }
 
 /// The way along which a hop goes, with what it binds and what is bound.
