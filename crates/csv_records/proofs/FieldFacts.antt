@@ -1,14 +1,13 @@
 -- What the machine makes of a field.
-use Rattle.std.proofs.Common.{◌≡◌, ◌∙◌, sym, ap, refl, arith, ◌+◌, ℕ, suc, not, ◌||◌, Bool, true, false, cond, List, [], ◌∷◌, ◌++◌, take, drop, Option, Some, None, append_assoc, append-nil, one-add, tests, eqb-true, ◌==◌}
+use Rattle.std.proofs.Common.{◌≡◌, ◌∙◌, refl, ℕ, suc, ◌||◌, Bool, true, false, cond, List, [], ◌∷◌, ◌++◌, take, drop, append_assoc, append-nil, one-add, eqb-true, ◌==◌}
 use Rattle.std.proofs.Common.{true≢false}
 use Rattle.std.proofs.lemmas.Bool.{false≢true}
 use Rattle.std.specs.List.{position_or_len}
 use Rattle.csv.specs.Machine.{next_record, step}
 use Rattle.csv.specs.Reading.{default_config}
 use Rattle.csv.specs.declared.parser.Action.TheVariants as act
-use Rattle.csv.specs.declared.parser.State.{State}
 use Rattle.csv.specs.declared.parser.State.TheVariants as st
-use Rattle.csv_records.specs.Fields.{begins_record, ends_field, ends_line, goes_on, is_quote, is_quoted, record_after, record_from, record_within}
+use Rattle.csv_records.specs.Fields.{ends_field, ends_line, goes_on, is_over, is_quote, is_quoted, record_after, record_from}
 
 abbrev field_end : List ℕ → ℕ
 field_end text = position_or_len ends_field text
@@ -130,3 +129,24 @@ closed before field text e = pick_false (is_quoted (drop 1 (drop (quote_at text)
 pub doubled : (before : List (List ℕ)) (field text : List ℕ) → is_quoted (drop 1 (drop (quote_at text) text)) ≡ true
     → record_from st.InQuoted before field text ≡ record_from st.InQuoted before ((field ++ take (quote_at text) text) ++ 34 ∷ []) (drop 1 (drop 1 (drop (quote_at text) text)))
 doubled before field text e = pick_true (is_quoted (drop 1 (drop (quote_at text) text))) _ _ _ (quoted before field text) e
+
+-- a text before which a field is over begins with no quote, and none of it joins the field
+over : (text : List ℕ) → is_over text ≡ true → (is_quoted text ≡ false) × (field_end text ≡ 0)
+over [] e = (refl, refl)
+over (c ∷ rest) e = by (is_quote c) refl
+  where
+    ends_here : field_end (c ∷ rest) ≡ 0
+    ends_here = rw e refl
+
+    by : (b : Bool) → is_quote c ≡ b → (is_quoted (c ∷ rest) ≡ false) × (field_end (c ∷ rest) ≡ 0)
+    by true q = let is : c ≡ 34 = eqb-true c 34 q in absurd (false≢true (rw is at e))
+    by false q = (q, ends_here)
+
+-- a quoted field that goes to the first quote
+pub whole : (before : List (List ℕ)) (text : List ℕ) → is_over (drop 1 (drop (quote_at text) text)) ≡ true
+    → record_from st.InQuoted before [] text
+    ≡ record_after (goes_on (drop 1 (drop (quote_at text) text))) (before ++ take (quote_at text) text ∷ []) (drop 1 (drop 1 (drop (quote_at text) text)))
+whole before text e =
+    let tail = drop 1 (drop (quote_at text) text) in
+    let parts = over tail e in
+    closed before [] text parts.0 ∙ (rw (parts.1, append-nil) at (plain before (take (quote_at text) text) tail))

@@ -1,5 +1,5 @@
 -- The first place at which a test passes.
-use Rattle.std.proofs.Common.{◌≡◌, refl, arith, ◌+◌, ◌<◌, ◌≤◌, ℕ, not, Bool, true, false, cond, List, [], ◌∷◌, length, position, Option, Some, None, OnErr, Result, Ok, Err, nat_lt}
+use Rattle.std.proofs.Common.{◌≡◌, refl, arith, ◌+◌, ◌<◌, ◌≤◌, ℕ, Bool, true, false, cond, List, [], ◌∷◌, length, position, Some, None, OnErr, Result, Ok, Err, nat_lt}
 use Rattle.std.proofs.lemmas.Bool.Decides.{nat_tests}
 use Rattle.std.specs.List.{position_or_len}
 

@@ -27,6 +27,11 @@ abbrev pub is_quoted : List ℕ → Bool
 is_quoted [] = false
 is_quoted (b ∷ rest) = is_quote b
 
+-- a field that was quoted, and after which this text stands, is over
+abbrev pub is_over : List ℕ → Bool
+is_over [] = true
+is_over (b ∷ rest) = ends_field b
+
 -- the end of a field, with which the text begins, has another field of the record after it
 abbrev pub goes_on : List ℕ → Bool
 goes_on [] = false

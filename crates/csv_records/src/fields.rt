@@ -1,12 +1,11 @@
 //! The fields of a record.
-ghost use Rattle.std.specs.Prelude.{◌≡◌, ◌<◌, ◌≤◌, ◌++◌, ℕ, List, [], true, drop, length, IfOk, OnOk, Some, position};
+ghost use Rattle.std.specs.Prelude.{◌≡◌, ◌<◌, ◌≤◌, ◌++◌, ℕ, List, [], true, drop, length, IfOk, Some, position};
 ghost use Rattle.std.specs.List.{position_or_len};
-ghost use Rattle.csv.specs.Records.{fields_of, partial_of};
 ghost use Rattle.csv.specs.declared.parser.State.TheVariants as st;
 ghost use Rattle.csv_records.specs.Fields as fields;
 ghost use Rattle.csv_records.specs.Fields.{is_quote, record_after, record_from, record_within};
 
-use csv::ByteRecord;
+use crate::row::Row;
 use std::alloc::AllocError;
 
 fn ends_field(byte: u8) -> bool
@@ -88,15 +87,23 @@ fn goes_on(text: &[u8]) -> bool
     }
 }
 
+// Whether a field that was quoted is over.
+fn is_over(text: &[u8]) -> bool
+    ensures { result ≡ fields.is_over text.now }
+{
+    match text.first() {
+        Some(first) => ends_field(*first),
+        None => true,
+    }
+}
+
 // Adds a field that isn't quoted. The answer says whether another field of the record follows, and what stands after it.
-fn take_plain<'a>(text: &'a [u8], row: &mut ByteRecord) -> Result<(bool, &'a [u8]), AllocError>
-    requires whole { partial_of row.old ≡ [] }
-    ensures whole { OnOk result (partial_of row.new ≡ []) }
-    ensures taken { IfOk result (λ r. record_from st.InField (fields_of row.old) [] text.now ≡ record_after r.0 (fields_of row.new) r.1.now) }
+fn take_plain<'a>(text: &'a [u8], row: &mut Row<'a>) -> Result<(bool, &'a [u8]), AllocError>
+    ensures taken { IfOk result (λ r. record_from st.InField row.old [] text.now ≡ record_after r.0 row.new r.1.now) }
     ensures shorter { IfOk result (λ r. r.0 ≡ true → length r.1.now < length text.now) }
 {
     let end = field_end(text);
-    row.push_field(&text[..end])?;
+    row.push(&text[..end])?;
     let tail = from_place(text, end);
     Ok((goes_on(tail), after_first(tail)))
 }
@@ -133,35 +140,51 @@ fn unquote<'a>(text: &'a [u8], field: &mut Vec<u8>) -> Result<&'a [u8], AllocErr
     Ok(rest)
 }
 
-// Adds a field that is quoted, where the text begins after the opening quote. `field` is where it is put together.
-fn take_quoted<'a>(
+// Adds a quoted field whose bytes don't stand side by side, where the text begins after the opening quote. `field` is
+// where they are put together.
+fn take_joined<'a>(
     text: &'a [u8],
-    row: &mut ByteRecord,
+    row: &mut Row<'a>,
     field: &mut Vec<u8>,
 ) -> Result<(bool, &'a [u8]), AllocError>
-    requires whole { partial_of row.old ≡ [] }
-    ensures whole { OnOk result (partial_of row.new ≡ []) }
-    ensures taken { IfOk result (λ r. record_from st.InQuoted (fields_of row.old) [] text.now ≡ record_after r.0 (fields_of row.new) r.1.now) }
+    ensures taken { IfOk result (λ r. record_from st.InQuoted row.old [] text.now ≡ record_after r.0 row.new r.1.now) }
     ensures shorter { IfOk result (λ r. length r.1.now ≤ length text.now) }
 {
     field.clear();
     let rest = unquote(text, field)?;
     let end = field_end(rest);
     field.extend_from_slice(&rest[..end])?;
-    row.push_field(field)?;
+    row.push_copy(field)?;
     let tail = from_place(rest, end);
     Ok((goes_on(tail), after_first(tail)))
+}
+
+// Adds a field that is quoted, where the text begins after the opening quote. If it ends at the first quote from there
+// on, its bytes stand side by side.
+fn take_quoted<'a>(
+    text: &'a [u8],
+    row: &mut Row<'a>,
+    field: &mut Vec<u8>,
+) -> Result<(bool, &'a [u8]), AllocError>
+    ensures taken { IfOk result (λ r. record_from st.InQuoted row.old [] text.now ≡ record_after r.0 row.new r.1.now) }
+    ensures shorter { IfOk result (λ r. length r.1.now ≤ length text.now) }
+{
+    let end = run_end(text);
+    let tail = after_first(from_place(text, end));
+    if is_over(tail) {
+        row.push(&text[..end])?;
+        return Ok((goes_on(tail), after_first(tail)));
+    }
+    take_joined(text, row, field)
 }
 
 // Adds the field at the front of a text.
 fn take_field<'a>(
     text: &'a [u8],
-    row: &mut ByteRecord,
+    row: &mut Row<'a>,
     field: &mut Vec<u8>,
 ) -> Result<(bool, &'a [u8]), AllocError>
-    requires whole { partial_of row.old ≡ [] }
-    ensures whole { OnOk result (partial_of row.new ≡ []) }
-    ensures taken { IfOk result (λ r. record_from st.StartField (fields_of row.old) [] text.now ≡ record_after r.0 (fields_of row.new) r.1.now) }
+    ensures taken { IfOk result (λ r. record_from st.StartField row.old [] text.now ≡ record_after r.0 row.new r.1.now) }
     ensures shorter { IfOk result (λ r. r.0 ≡ true → length r.1.now < length text.now) }
 {
     if is_quoted(text) {
@@ -171,15 +194,14 @@ fn take_field<'a>(
     }
 }
 
-/// Adds the fields of the record at the front of a text, and answers the text after it. `field` is where a
-/// quoted one is put together.
+/// Adds the fields of the record at the front of a text, and answers the text after it. `field` is where one is put
+/// together whose bytes don't stand side by side.
 pub(crate) fn take_fields<'a>(
     text: &'a [u8],
-    row: &mut ByteRecord,
+    row: &mut Row<'a>,
     field: &mut Vec<u8>,
 ) -> Result<&'a [u8], AllocError>
-    requires whole { partial_of row.old ≡ [] }
-    ensures taken { IfOk result (λ rest. record_from st.StartField (fields_of row.old) [] text.now ≡ Some (fields_of row.new, rest.now)) }
+    ensures taken { IfOk result (λ rest. record_from st.StartField row.old [] text.now ≡ Some (row.new, rest.now)) }
 {
     let mut rest = text;
     let mut more = true;

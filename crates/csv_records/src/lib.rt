@@ -9,21 +9,24 @@
 //! looks bytes up one by one in the tables of its state machine. That both read the same is what the clause of
 //! `Records::next` says.
 //!
+//! A record is read into a `Row`, in which a cell lies where the table has it. Only a cell whose bytes don't stand side
+//! by side there is put together and copied: one in which a quote is doubled, or in which bytes follow the closing one.
+//!
 //! A contract sees `Records` as the list of the records that are left, so reading a record is taking the
 //! head of that list. No text has more records than bytes and one, and no record more fields.
 #![tactic(auto)]
 
 ghost use Rattle.std.specs.Prelude.{◌≡◌, ◌≤◌, ◌+◌, length, ◌∷◌, [], IfOk, OnOk, OnErr, MatchBool, drop};
 ghost use Rattle.std.specs.List.{AllByRecursion};
-ghost use Rattle.csv.specs.Records.{fields_of};
 ghost use Rattle.csv_records.specs.Table.{records_of};
 
 mod fields;
 mod lines;
+mod row;
 
 use crate::fields::take_fields;
 use crate::lines::{past_line_ends, without_mark};
-use csv::ByteRecord;
+pub use row::Row;
 use std::alloc::{AllocError, Global};
 use std::marker::Model;
 
@@ -34,7 +37,7 @@ use std::marker::Model;
 pub struct Records<'a> {
     // The bytes that are left, from the end of a record on.
     rest: &'a [u8],
-    // Where the bytes of a quoted field are put together.
+    // Where the bytes of a field are put together that don't stand side by side in the table.
     field: Vec<u8>,
 }
 
@@ -66,8 +69,8 @@ impl<'a> Records<'a> {
     ///
     /// `AllocError` says that memory ran out: `row`, or the field that is put together, couldn't grow. Then no
     /// record is left.
-    pub fn next(&mut self, row: &mut ByteRecord) -> Result<bool, AllocError>
-        ensures record_read { IfOk result (λ found. MatchBool found (self.old ≡ fields_of row.new ∷ self.new) (self.old ≡ [])) }
+    pub fn next(&mut self, row: &mut Row<'a>) -> Result<bool, AllocError>
+        ensures record_read { IfOk result (λ found. MatchBool found (self.old ≡ row.new ∷ self.new) (self.old ≡ [])) }
         ensures rest { OnOk result (self.new ≡ drop 1 self.old) }
         ensures err { OnErr result (self.new ≡ []) }
     {

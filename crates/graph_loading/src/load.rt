@@ -14,7 +14,7 @@ ghost use Rattle.graph_loading.specs.Steps.{HasBegun, HasLoaded, IsEmpty, LacksA
 use crate::rows::take_records;
 use adfs_base::{EDGES, FILE_BYTES, Loaded, Store, TABLE_BYTES, VERTICES};
 use csv::ByteRecord;
-use csv_records::Records;
+use csv_records::{Records, Row};
 use graph_tables::{
     ElementKind, Graph, Loading, Place, Quantity, TableFault, TableKind, TableLine, file_fault,
     heading, read_manifest,
@@ -139,6 +139,25 @@ fn begin_table(
     }
 }
 
+// Begins the table whose header is a row.
+fn begin_by_row(
+    alloc: Global,
+    at: Place,
+    table: &TableLine,
+    row: &Row<'_>,
+    loading: &mut Loading,
+) -> Result<(), TableFault>
+    requires sound { IsSound loading.old }
+    requires tables { tables_in loading.old < most_tables }
+    requires wide { properties_in loading.old + length row.now < 2 ^ 32 - 1 }
+    ensures gives { Gives (λ _. ((filled_of table.now.of loading.new).columns, graph_of loading.new)) result (begun at table.now row.now (graph_of loading.old)) }
+    ensures begun { OnOk result (HasBegun table.now.of table.now.label (length row.now) loading.old loading.new) }
+{
+    let mut header = ByteRecord::new(alloc);
+    row.copy_to(&mut header)?;
+    begin_table(alloc, at, table, &header, loading)
+}
+
 // Reads the header of a table, and begins the table.
 fn take_header(
     alloc: Global,
@@ -154,11 +173,11 @@ fn take_header(
     ensures begun { OnOk result (HasBegun table.now.of table.now.label (length (header_of records.old)) loading.old loading.new) }
     ensures rest { OnOk result (records.new ≡ drop 1 records.old) }
 {
-    let mut header = ByteRecord::new(alloc);
-    if !records.next(&mut header)? {
+    let mut row = Row::new(alloc);
+    if !records.next(&mut row)? {
         return Err(at.fault(1, TableKind::BadHeader));
     }
-    begin_table(alloc, at, table, &header, loading)
+    begin_by_row(alloc, at, table, &row, loading)
 }
 
 /// How many bytes of a table are looked at to guess the number of its lines.

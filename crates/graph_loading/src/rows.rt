@@ -1,6 +1,5 @@
 //! The records of a table.
 ghost use Rattle.std.specs.Prelude.{◌≡◌, ◌<◌, ◌≤◌, ◌+◌, ◌-◌, ◌^◌, ◌++◌, ◌∷◌, [], IfOk, IfErr, OnOk, length, None, Some};
-ghost use Rattle.csv.specs.Records.{fields_of};
 ghost use Rattle.element_store.specs.Columns.{HaveKinds, named};
 ghost use Rattle.element_store.specs.Elements.{cells_in, number_of};
 ghost use Rattle.element_store.specs.Words.{HasKind};
@@ -18,11 +17,10 @@ ghost use Rattle.graph_loading.specs.Rows as rows;
 ghost use Rattle.graph_loading.specs.Rows.{AreRead, admitted, edge_admitted, edge_record, ends_of, in_column, most_of, quantity_of, row_record, rows_from, values_of, vertex_admitted, vertex_record};
 
 use adfs_base::{EDGES, Kind, PROPERTY_CELLS, VERTICES, Value};
-use csv::ByteRecord;
-use csv_records::Records;
+use csv_records::{Records, Row};
 use element_store::{Columns, Elements};
 use graph_tables::{
-    ElementKind, Ends, Loading, Place, Quantity, TableFault, TableKind, cell, file_fault, key_count,
+    ElementKind, Ends, Loading, Place, Quantity, TableFault, TableKind, file_fault, key_count,
 };
 use std::alloc::Global;
 use value_text::{CellFault, Texts, read_key, read_value};
@@ -105,14 +103,14 @@ fn end_at(at: Place, column: u32, vertices: &Elements, cell: &[u8]) -> Result<u3
     }
 }
 
-fn read_ends(at: Place, vertices: &Elements, row: &ByteRecord) -> Result<Ends, TableFault>
+fn read_ends(at: Place, vertices: &Elements, row: &Row<'_>) -> Result<Ends, TableFault>
     requires { length vertices.now.elements < 2 ^ 32 }
-    ensures ends { Gives (λ ends. (ends.source, ends.target)) result (ends_of at vertices.now.elements (fields_of row.now)) }
+    ensures ends { Gives (λ ends. (ends.source, ends.target)) result (ends_of at vertices.now.elements row.now) }
     ensures source { IfOk result (λ ends. ends.source < length vertices.now.elements) }
     ensures target { IfOk result (λ ends. ends.target < length vertices.now.elements) }
 {
-    let source = end_at(at, 2, vertices, cell(row, 1))?;
-    let target = end_at(at, 3, vertices, cell(row, 2))?;
+    let source = end_at(at, 2, vertices, row.cell(1))?;
+    let target = end_at(at, 3, vertices, row.cell(2))?;
     Ok(Ends { source, target })
 }
 
@@ -143,21 +141,21 @@ fn read_values(
     of: ElementKind,
     at: Place,
     columns: &Columns,
-    row: &ByteRecord,
+    row: &Row<'_>,
     texts: &mut Texts,
     values: &mut Vec<Value>,
 ) -> Result<(), TableFault>
-    requires count { length (fields_of row.now) ≡ key_columns of + length columns.now }
+    requires count { length row.now ≡ key_columns of + length columns.now }
     requires few { length columns.now ≤ most_cells }
     requires room { length texts.old + length columns.now < 2 ^ 32 - 1 }
-    ensures values { Gives (λ _. (values.new.items, texts.new)) result (values_of of at columns.now (fields_of row.now) texts.old) }
+    ensures values { Gives (λ _. (values.new.items, texts.new)) result (values_of of at columns.now row.now texts.old) }
     ensures read { OnOk result (AreRead columns.now texts.old texts.new values.new.items) }
 {
     let keys = key_count(of);
     values.clear();
     for i in 0..columns.len() {
         let (_, kind) = columns.get(i);
-        let value = value_in(at, (keys + i) as u32 + 1, kind, cell(row, keys + i), texts)?;
+        let value = value_in(at, (keys + i) as u32 + 1, kind, row.cell(keys + i), texts)?;
         values.push(value)?;
     }
     Ok(())
@@ -166,21 +164,21 @@ fn read_values(
 // Adds the vertex of a record for which there is room.
 fn add_vertex(
     at: Place,
-    row: &ByteRecord,
+    row: &Row<'_>,
     values: &mut Vec<Value>,
     loading: &mut Loading,
 ) -> Result<(), TableFault>
     requires sound { IsSound loading.old }
     requires table { 0 < loading.old.vertices.tables }
     requires tables { tables_in loading.old ≤ most_tables }
-    requires count { length (fields_of row.now) ≡ 1 + length loading.old.vertices.columns }
+    requires count { length row.now ≡ 1 + length loading.old.vertices.columns }
     requires vertices { length loading.old.vertices.elements < most_vertices }
     requires cells { cells_made (graph_of loading.old) + length loading.old.vertices.columns ≤ most_cells }
-    ensures gives { Gives (λ _. graph_of loading.new) result (vertex_admitted at loading.old.vertices.label loading.old.vertices.columns (fields_of row.now) (graph_of loading.old)) }
+    ensures gives { Gives (λ _. graph_of loading.new) result (vertex_admitted at loading.old.vertices.label loading.old.vertices.columns row.now (graph_of loading.old)) }
     ensures sound { OnOk result (IsSound loading.new) }
     ensures keeps { OnOk result (KeepsTables loading.old loading.new) }
 {
-    let key = new_key(at, &loading.vertices, cell(row, 0))?;
+    let key = new_key(at, &loading.vertices, row.cell(0))?;
     let columns = loading.vertices.columns();
     read_values(
         ElementKind::Vertex,
@@ -197,21 +195,21 @@ fn add_vertex(
 // Adds the edge of a record for which there is room.
 fn add_edge(
     at: Place,
-    row: &ByteRecord,
+    row: &Row<'_>,
     values: &mut Vec<Value>,
     loading: &mut Loading,
 ) -> Result<(), TableFault>
     requires sound { IsSound loading.old }
     requires table { 0 < loading.old.edges.tables }
     requires tables { tables_in loading.old ≤ most_tables }
-    requires count { length (fields_of row.now) ≡ 3 + length loading.old.edges.columns }
+    requires count { length row.now ≡ 3 + length loading.old.edges.columns }
     requires edges { length loading.old.edges.elements < most_edges }
     requires cells { cells_made (graph_of loading.old) + length loading.old.edges.columns ≤ most_cells }
-    ensures gives { Gives (λ _. graph_of loading.new) result (edge_admitted at loading.old.edges.label loading.old.edges.columns (fields_of row.now) (graph_of loading.old)) }
+    ensures gives { Gives (λ _. graph_of loading.new) result (edge_admitted at loading.old.edges.label loading.old.edges.columns row.now (graph_of loading.old)) }
     ensures sound { OnOk result (IsSound loading.new) }
     ensures keeps { OnOk result (KeepsTables loading.old loading.new) }
 {
-    let key = new_key(at, &loading.edges, cell(row, 0))?;
+    let key = new_key(at, &loading.edges, row.cell(0))?;
     let ends = read_ends(at, &loading.vertices, row)?;
     let columns = loading.edges.columns();
     read_values(
@@ -267,14 +265,14 @@ fn cells_of(loading: &Loading) -> u64
 // Adds the vertex of a record.
 fn take_vertex(
     at: Place,
-    row: &ByteRecord,
+    row: &Row<'_>,
     values: &mut Vec<Value>,
     loading: &mut Loading,
 ) -> Result<(), TableFault>
     requires sound { IsSound loading.old }
     requires table { 0 < loading.old.vertices.tables }
     requires tables { tables_in loading.old ≤ most_tables }
-    ensures gives { Gives (λ _. graph_of loading.new) result (vertex_record at loading.old.vertices.label loading.old.vertices.columns (fields_of row.now) (graph_of loading.old)) }
+    ensures gives { Gives (λ _. graph_of loading.new) result (vertex_record at loading.old.vertices.label loading.old.vertices.columns row.now (graph_of loading.old)) }
     ensures sound { OnOk result (IsSound loading.new) }
     ensures keeps { OnOk result (KeepsTables loading.old loading.new) }
 {
@@ -294,14 +292,14 @@ fn take_vertex(
 // Adds the edge of a record.
 fn take_edge(
     at: Place,
-    row: &ByteRecord,
+    row: &Row<'_>,
     values: &mut Vec<Value>,
     loading: &mut Loading,
 ) -> Result<(), TableFault>
     requires sound { IsSound loading.old }
     requires table { 0 < loading.old.edges.tables }
     requires tables { tables_in loading.old ≤ most_tables }
-    ensures gives { Gives (λ _. graph_of loading.new) result (edge_record at loading.old.edges.label loading.old.edges.columns (fields_of row.now) (graph_of loading.old)) }
+    ensures gives { Gives (λ _. graph_of loading.new) result (edge_record at loading.old.edges.label loading.old.edges.columns row.now (graph_of loading.old)) }
     ensures sound { OnOk result (IsSound loading.new) }
     ensures keeps { OnOk result (KeepsTables loading.old loading.new) }
 {
@@ -322,14 +320,14 @@ fn take_edge(
 fn take_record(
     of: ElementKind,
     at: Place,
-    row: &ByteRecord,
+    row: &Row<'_>,
     values: &mut Vec<Value>,
     loading: &mut Loading,
 ) -> Result<(), TableFault>
     requires sound { IsSound loading.old }
     requires table { 0 < (filled_of of loading.old).tables }
     requires tables { tables_in loading.old ≤ most_tables }
-    ensures gives { Gives (λ _. graph_of loading.new) result (row_record of at (filled_of of loading.old).label (filled_of of loading.old).columns (fields_of row.now) (graph_of loading.old)) }
+    ensures gives { Gives (λ _. graph_of loading.new) result (row_record of at (filled_of of loading.old).label (filled_of of loading.old).columns row.now (graph_of loading.old)) }
     ensures sound { OnOk result (IsSound loading.new) }
     ensures keeps { OnOk result (KeepsTables loading.old loading.new) }
 {
@@ -340,11 +338,11 @@ fn take_record(
 }
 
 // Adds the elements of the records that are left. `row` and `values` are where each is read to.
-fn take_each(
+fn take_each<'a>(
     of: ElementKind,
     file: u32,
-    records: &mut Records<'_>,
-    row: &mut ByteRecord,
+    records: &mut Records<'a>,
+    row: &mut Row<'a>,
     values: &mut Vec<Value>,
     loading: &mut Loading,
 ) -> Result<(), TableFault>
@@ -380,7 +378,7 @@ pub(crate) fn take_records(
     ensures sound { OnOk result (IsSound loading.new) }
     ensures keeps { OnOk result (KeepsTables loading.old loading.new) }
 {
-    let mut row = ByteRecord::new(alloc);
+    let mut row = Row::new(alloc);
     let mut values = Vec::new(alloc);
     take_each(of, file, records, &mut row, &mut values, loading)
 }

@@ -1,7 +1,4 @@
-use Rattle.std.proofs.Common.{◌≡◌, ◌∙◌, ◌==◌, sym, refl, true, false, length, drop}
-use Rattle.std.specs.List.{position_or_len}
-use Rattle.csv.specs.Records.{fields_of}
-use Rattle.csv_records.specs.Fields.{begins_record}
+use Rattle.std.proofs.Common.{◌∙◌, sym, refl}
 use Rattle.csv_records.proofs.PlaceFacts.{on_err}
 use Rattle.csv_records.proofs.TableFacts.{no_bytes, none_read, record_read}
 use Rattle.csv_records.proofs.Records.next.Goals as goal
@@ -22,12 +19,12 @@ returns-in_err-self-inside-clause-err c = on_err c.from_residual.result no_bytes
 pub returns-clause-record_read : goal.returns-clause-record_read
 returns-clause-record_read c =
     let some = rw c.past_line_ends-text.ensures at (sym c.is_empty.ensures ∙ c.if-is_empty.false) in
-    let taken = rw (c.clear.ensures.fields, c.past_line_ends-text.ensures) at c.in_ok-self-inside.ensures.taken in
-    rw (← c.self.view_is) (record_read c.self.inside.rest.now c.in_ok-self-inside.field-0.now (fields_of c.take_fields.new.row) some taken)
+    let taken = rw (c.clear.ensures, c.past_line_ends-text.ensures) at c.in_ok-self-inside.ensures.taken in
+    rw (← c.self.view_is) (record_read c.self.inside.rest.now c.in_ok-self-inside.field-0.now c.take_fields.new.row some taken)
 
 pub returns-clause-rest : goal.returns-clause-rest
 returns-clause-rest c =
     let some = rw c.past_line_ends-text.ensures at (sym c.is_empty.ensures ∙ c.if-is_empty.false) in
-    let taken = rw (c.clear.ensures.fields, c.past_line_ends-text.ensures) at c.in_ok-self-inside.ensures.taken in
-    let read = record_read c.self.inside.rest.now c.in_ok-self-inside.field-0.now (fields_of c.take_fields.new.row) some taken in
+    let taken = rw (c.clear.ensures, c.past_line_ends-text.ensures) at c.in_ok-self-inside.ensures.taken in
+    let read = record_read c.self.inside.rest.now c.in_ok-self-inside.field-0.now c.take_fields.new.row some taken in
     rw (← c.self.view_is, read) refl

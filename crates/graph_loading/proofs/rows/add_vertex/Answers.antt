@@ -2,7 +2,6 @@ use Rattle.std.proofs.Common.{◌∙◌, arith, rules, refl, w64}
 use Rattle.std.specs.Int.RustNames.{FitsSigned}
 use Rattle.std.proofs.lemmas.Int.{to_z-of_z}
 use Rattle.std.proofs.lemmas.Result.{err_from_is_err_and}
-use Rattle.csv.specs.Records.{fields_of}
 use Rattle.element_store.proofs.ElementFacts.{length-named}
 use Rattle.element_store.proofs.RowFacts.{kinds_length}
 use Rattle.element_store.specs.Columns.{named}
@@ -18,20 +17,20 @@ use Rattle.graph_loading.proofs.rows.add_vertex.Goals as goal
 pub returns-in_err-key-clause-gives : goal.returns-in_err-key-clause-gives
 returns-in_err-key-clause-gives c =
     let p = err_from_is_err_and c.from_residual.result c.from_residual.ensures.1 in
-    rw (p.1, p.2) (vertex_key_failed c.args.at c.args.loading.now.vertices.label c.args.loading.now.vertices.columns (fields_of c.args.row.now) (graph_of c.args.loading.now) c.in_err-key.field-0.0
+    rw (p.1, p.2) (vertex_key_failed c.args.at c.args.loading.now.vertices.label c.args.loading.now.vertices.columns c.args.row.now (graph_of c.args.loading.now) c.in_err-key.field-0.0
     (rw c.cell.ensures at c.in_err-key.ensures.key))
 
 pub returns-in_err-read_values-clause-gives : goal.returns-in_err-read_values-clause-gives
 returns-in_err-read_values-clause-gives c =
     let p = err_from_is_err_and c.from_residual-in_err-read_values.result c.from_residual-in_err-read_values.ensures.1 in
-    rw (p.1, p.2) (vertex_values_failed c.args.at c.args.loading.now.vertices.label c.args.loading.now.vertices.columns (fields_of c.args.row.now) (graph_of c.args.loading.now) c.in_ok-key.key
+    rw (p.1, p.2) (vertex_values_failed c.args.at c.args.loading.now.vertices.label c.args.loading.now.vertices.columns c.args.row.now (graph_of c.args.loading.now) c.in_ok-key.key
     c.in_err-read_values.field-0.0 (rw c.cell.ensures at c.in_ok-key.ensures.key) (rw c.columns-columns.ensures at c.in_err-read_values.ensures.values))
 
 pub returns-clause-gives : goal.returns-clause-gives
 returns-clause-gives c =
     let fits : FitsSigned w64 c.in_ok-key.key = search rules in
     let key = to_z-of_z w64 c.in_ok-key.key fits in
-    vertex_added c.args.at c.args.loading.now.vertices.label c.args.loading.now.vertices.columns (fields_of c.args.row.now) (graph_of c.args.loading.now) c.in_ok-key.key
+    vertex_added c.args.at c.args.loading.now.vertices.label c.args.loading.now.vertices.columns c.args.row.now (graph_of c.args.loading.now) c.in_ok-key.key
     (c.read_values.new.values.items, c.read_values.new.texts) (rw c.cell.ensures at c.in_ok-key.ensures.key) (rw c.columns-columns.ensures at c.in_ok-read_values.ensures.values)
     ∙ rw (c.in_ok-add.ensures.ok, c.deref.ensures.value, key) refl
 
@@ -48,7 +47,7 @@ returns-clause-sound c =
     let few = rw c.columns-columns.ensures at c.in_ok-read_values.ensures.read.room in
     let label = c.requires.sound.vertex_label c.requires.table in
     let long = new_long c.args.at c.args.loading.now.vertices.elements c.cell.result.now c.in_ok-key.key c.in_ok-key.ensures.key in
-    let longs = values_long element.Vertex c.args.at columns (fields_of c.args.row.now) c.args.loading.now.texts (values, c.read_values.new.texts) (rw c.columns-columns.ensures at c.in_ok-read_values.ensures.values) in
+    let longs = values_long element.Vertex c.args.at columns c.args.row.now c.args.loading.now.texts (values, c.read_values.new.texts) (rw c.columns-columns.ensures at c.in_ok-read_values.ensures.values) in
     let v : Element = record { key = c.in_ok-key.key; label = c.args.loading.now.vertices.label; values = named columns values } in
     sound_vertex c.args.loading.now c.add.new.self c.read_values.new.texts v c.requires.sound (rw (c.in_ok-add.ensures.ok, c.deref.ensures.value, key) refl) (rw c.in_ok-add.ensures.ok refl) (rw c.in_ok-add.ensures.ok refl) (rw c.in_ok-add.ensures.ok refl)
     (omega (arith, label, grown), named_valid c.read_values.new.texts columns values c.in_ok-read_values.ensures.read.valid)

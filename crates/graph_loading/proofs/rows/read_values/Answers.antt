@@ -1,6 +1,5 @@
 use Rattle.std.proofs.Common.{◌≡◌, ◌∙◌, ◌+◌, ◌<◌, ◌≤◌, arith, length, drop, length-append, ◌∷◌, []}
 use Rattle.std.proofs.lemmas.Result.{err_from_is_err_and}
-use Rattle.csv.specs.Records.{fields_of}
 use Rattle.value_text.specs.Valid.{IsValid}
 use Rattle.graph_tables.specs.Headers.{key_columns}
 use Rattle.graph_loading.proofs.RowLaws.{kinds_more, values_done, values_failed, values_kept}
@@ -10,18 +9,18 @@ use Rattle.graph_loading.proofs.rows.read_values.Goals as goal
 pub returns-in_err-value-clause-values : goal.returns-in_err-value-clause-values
 returns-in_err-value-clause-values c =
     let p = err_from_is_err_and c.from_residual.result c.from_residual.ensures.1 in
-    let inside : key_columns c.args.of + c.loop-i.i < length (fields_of c.args.row.now) = omega (arith, c.requires.count, c.loop-i-test.true, c.len-i-end.ensures.number) in
+    let inside : key_columns c.args.of + c.loop-i.i < length c.args.row.now = omega (arith, c.requires.count, c.loop-i-test.true, c.len-i-end.ensures.number) in
     let place : c.key_count-keys.result + c.loop-i.i + 1 ≡ key_columns c.args.of + 1 + c.loop-i.i = omega (arith, c.key_count-keys.ensures) in
     let failed = rw (place, c.cell.ensures, c.key_count-keys.ensures) at c.in_err-value.ensures.value in
-    rw (p.1, p.2) (values_failed c.args.at (key_columns c.args.of + 1 + c.loop-i.i) (key_columns c.args.of) c.loop-i.i c.args.columns.now (fields_of c.args.row.now) c.get-kind.result (c.loop-i.values.items, c.loop-i.texts) _
+    rw (p.1, p.2) (values_failed c.args.at (key_columns c.args.of + 1 + c.loop-i.i) (key_columns c.args.of) c.loop-i.i c.args.columns.now c.args.row.now c.get-kind.result (c.loop-i.values.items, c.loop-i.texts) _
     c.get-kind.ensures inside c.loop-i.invariant.rest c.in_err-value.field-0.0 failed)
 
 pub loop-i-preserved : goal.loop-i-preserved
 loop-i-preserved c =
-    let inside : key_columns c.args.of + c.loop-i.i < length (fields_of c.args.row.now) = omega (arith, c.requires.count, c.loop-i-test.true, c.len-i-end.ensures.number) in
+    let inside : key_columns c.args.of + c.loop-i.i < length c.args.row.now = omega (arith, c.requires.count, c.loop-i-test.true, c.len-i-end.ensures.number) in
     let place : c.key_count-keys.result + c.loop-i.i + 1 ≡ key_columns c.args.of + 1 + c.loop-i.i = omega (arith, c.key_count-keys.ensures) in
     let value = rw (place, c.cell.ensures, c.key_count-keys.ensures) at c.in_ok-value.ensures.value in
-    let kept = values_kept c.args.at (key_columns c.args.of + 1 + c.loop-i.i) (key_columns c.args.of) c.loop-i.i c.args.columns.now (fields_of c.args.row.now) c.get-kind.result (c.loop-i.values.items, c.loop-i.texts) _
+    let kept = values_kept c.args.at (key_columns c.args.of + 1 + c.loop-i.i) (key_columns c.args.of) c.loop-i.i c.args.columns.now c.args.row.now c.get-kind.result (c.loop-i.values.items, c.loop-i.texts) _
     c.get-kind.ensures inside c.loop-i.invariant.rest (c.in_ok-value.value, c.value_in.new.texts) value in
     let more : key_columns c.args.of + 1 + (c.loop-i.i + 1) ≡ key_columns c.args.of + 1 + c.loop-i.i + 1 = omega arith in
     let grown = kept_length c.loop-i.texts c.value_in.new.texts c.in_ok-value.ensures.kept in
@@ -38,4 +37,4 @@ loop-i-preserved c =
 pub returns-clause-values : goal.returns-clause-values
 returns-clause-values c =
     let past : length c.args.columns.now ≤ c.loop-i.i = omega (arith, c.loop-i-test.false, c.len-i-end.ensures.number) in
-    values_done c.args.at (key_columns c.args.of + 1 + c.loop-i.i) c.loop-i.i c.args.columns.now (drop (key_columns c.args.of + c.loop-i.i) (fields_of c.args.row.now)) (c.loop-i.values.items, c.loop-i.texts) _ past c.loop-i.invariant.rest
+    values_done c.args.at (key_columns c.args.of + 1 + c.loop-i.i) c.loop-i.i c.args.columns.now (drop (key_columns c.args.of + c.loop-i.i) c.args.row.now) (c.loop-i.values.items, c.loop-i.texts) _ past c.loop-i.invariant.rest
