@@ -16,6 +16,7 @@ mod limits;
 mod mem_sink;
 mod mem_store;
 mod name;
+mod no_memory;
 mod part_word;
 mod shape;
 mod short_text;
@@ -33,7 +34,8 @@ pub use limits::{
 };
 pub use mem_sink::MemSink;
 pub use mem_store::MemStore;
-pub use name::{Name, NoMemory};
+pub use name::Name;
+pub use no_memory::NoMemory;
 pub use part_word::PartWord;
 pub use shape::Shape;
 pub use sink::{Put, Sink};

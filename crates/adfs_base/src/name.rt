@@ -1,25 +1,10 @@
-//! A name as a text of its own, and what is answered where memory runs out.
+//! A name as a text of its own.
 ghost use Rattle.std.specs.Prelude.{◌≡◌, IfOk};
 
+use crate::no_memory::NoMemory;
 use crate::short_text::{ShortText, text_in, text_of};
-use std::alloc::{AllocError, AllocFailed, Global};
+use std::alloc::Global;
 use std::marker::Model;
-
-/// Memory ran out. It is an answer of its own everywhere, and stands for nothing else.
-#[derive(Clone, Copy, Debug, PartialEq, Eq)]
-pub struct NoMemory;
-
-impl From<AllocError> for NoMemory {
-    fn from(_: AllocError) -> Self {
-        NoMemory
-    }
-}
-
-impl<T: Drop> From<AllocFailed<T>> for NoMemory {
-    fn from(_: AllocFailed<T>) -> Self {
-        NoMemory
-    }
-}
 
 /// The name of a file, a label, a property or a variable. A contract sees it as its UTF-8 bytes.
 ///

@@ -3,7 +3,7 @@ ghost use Rattle.std.specs.Prelude.{◌≡◌, ◌≤◌, IfOk, length};
 ghost use Rattle.adfs_base.specs.ShortTexts.{IsText, bytes_of};
 ghost use Rattle.adfs_base.specs.declared.short_text.TheConstants.{SHORT};
 
-use crate::name::NoMemory;
+use crate::no_memory::NoMemory;
 use std::alloc::Global;
 
 // The bytes of the longest text that stands in place: then a text takes 16 bytes in all.

@@ -1,7 +1,7 @@
 -- Answers that are made in one go are advances, one after the other.
 use Rattle.std.proofs.Common.{◌≡◌, ℕ, ◌+◌, ◌<◌, List, [], ◌∷◌, length, get_or, take, reverse, Option, Some, None, Result, Ok, Err, refl, sym, ap, subst, ◌∙◌, arith, zero, suc}
 use Rattle.std.specs.Prelude.{slice_set, IfOk}
-use Rattle.adfs_base.specs.declared.name.NoMemory as base
+use Rattle.adfs_base.specs.declared.no_memory.NoMemory as base
 use Rattle.match_context.specs.declared.context.Context.{Context}
 use Rattle.match_context.specs.declared.frame.Frame.{Frame}
 use Rattle.match_context.specs.declared.expand.Found.{Found}

@@ -3,5 +3,7 @@ pub mod CellFacts
 pub mod ElementFacts
 pub mod PositionFacts
 pub mod RowFacts
+pub mod RowReads
 pub mod TableFacts
 pub mod SlotFacts
+pub mod WordFacts

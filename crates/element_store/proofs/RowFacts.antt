@@ -8,8 +8,8 @@ use Rattle.std.specs.Map.{keys_of}
 use Rattle.adfs_base.specs.declared.value.Value.{Value}
 use Rattle.adfs_base.specs.declared.value.Value.TheVariants as value
 use Rattle.element_store.specs.Columns.{Column, HaveKinds, named, value_of}
-use Rattle.element_store.specs.Tables.{AddsRow, rows_of, values_of}
-use Rattle.element_store.specs.Words.{HasKind, value_from}
+use Rattle.element_store.specs.Tables.{AddsRow, AreWords, RowsAreWords, rows_of, values_of}
+use Rattle.element_store.specs.Words.{HasKind, value_from, word_from}
 
 nothing : {A : Type 0} (xs : List A) → length xs ≡ 0 → xs ≡ []
 nothing [] e = refl
@@ -50,9 +50,9 @@ unfolding rows_of
 rows_get columns zero cells i h = absurd (omega arith)
 rows_get columns (suc n) cells zero h = let none : 0 * length columns ≡ 0 = omega arith in rw none refl
 rows_get columns (suc n) cells (suc i) h =
-    let behind : drop (i * length columns) (drop (length columns) cells) ≡ drop (suc i * length columns) cells =
+    let kept : drop (i * length columns) (drop (length columns) cells) ≡ drop (suc i * length columns) cells =
     drop_drop (i * length columns) (length columns) cells ∙ ap (λ k. drop k cells) (sym (suc-mul i (length columns))) in
-    rw (← behind) (rows_get columns n (drop (length columns) cells) i (omega arith))
+    rw (← kept) (rows_get columns n (drop (length columns) cells) i (omega arith))
 
 take_within : {A : Type 0} (n : ℕ) (xs : List A) (i : ℕ) (x : A) → i < n → slice_get xs i ≡ Some x → slice_get (take n xs) i ≡ Some x
 take_within zero xs i x h e = absurd (omega arith)
@@ -75,6 +75,12 @@ pub cell_within : (w r n place : ℕ) → r < n → place < w → r * w + place 
 cell_within w r zero place a b = absurd (omega arith)
 cell_within w zero (suc n) place a b = omega (arith, suc-mul n w)
 cell_within w (suc r) (suc n) place a b = omega (arith, suc-mul n w, suc-mul r w, cell_within w r n place (omega arith) b)
+
+-- a row begins within the cells, or at their end
+pub row_within : (w r n : ℕ) → r < n → r * w ≤ n * w
+row_within w r zero a = absurd (omega arith)
+row_within w zero (suc n) a = omega arith
+row_within w (suc r) (suc n) a = omega (arith, suc-mul n w, suc-mul r w, row_within w r n (omega arith))
 
 -- the value under a column's property
 pub value_found : (columns : List Column) (cells : List (Option ℕ)) (property k : ℕ) (c : Column) (cell : Option ℕ)
@@ -134,6 +140,38 @@ values_push [] (x ∷ xs) c cell e = absurd (omega arith)
 values_push (d ∷ ds) [] c cell e = absurd (omega arith)
 values_push (d ∷ ds) (x ∷ xs) c cell e = ap (λ t. value_from d.1 x ∷ t) (values_push ds xs c cell (omega arith))
 
+-- one more word of a row
+pub words_push : (cs : List Column) (cells : List (Option ℕ)) (c : Column) (cell : Option ℕ) → length cells ≡ length cs → AreWords cs cells → word_from c.1 (value_from c.1 cell) ≡ cell
+    → AreWords (cs ++ c ∷ []) (cells ++ cell ∷ [])
+words_push [] [] c cell e h is = (is, tt)
+words_push [] (x ∷ xs) c cell e h is = absurd (omega arith)
+words_push (d ∷ ds) [] c cell e h is = absurd (omega arith)
+words_push (d ∷ ds) (x ∷ xs) c cell e h is = (h.0, words_push ds xs c cell (omega arith) h.1 is)
+
+-- one more row of words
+rows_words_push : (columns : List Column) (n : ℕ) (cells row : List (Option ℕ)) → length cells ≡ n * length columns → length row ≡ length columns → RowsAreWords columns n cells → AreWords columns row
+    → RowsAreWords columns (suc n) (cells ++ row)
+unfolding RowsAreWords
+rows_words_push columns zero cells row e f h is =
+    let none : cells ≡ [] = nothing cells (e ∙ omega arith) in
+    rw (none, take_all (length columns) row (omega arith)) (is, tt)
+rows_words_push columns (suc n) cells row e f h is =
+    let total : length cells ≡ n * length columns + length columns = e ∙ suc-mul n (length columns) in
+    let within : length columns ≤ length cells = omega arith in
+    let rest : length (drop (length columns) cells) ≡ n * length columns = length-drop (length columns) cells ∙ omega arith in
+    rw (take-append-le (length columns) cells row within, drop-append-le (length columns) cells row within)
+    (h.0, rows_words_push columns n (drop (length columns) cells) row rest f h.1 is)
+
+-- the words of a row
+pub rows_words_get : (columns : List Column) (n : ℕ) (cells : List (Option ℕ)) (i : ℕ) → i < n → RowsAreWords columns n cells → AreWords columns (take (length columns) (drop (i * length columns) cells))
+unfolding RowsAreWords
+rows_words_get columns zero cells i h words = absurd (omega arith)
+rows_words_get columns (suc n) cells zero h words = let none : 0 * length columns ≡ 0 = omega arith in rw none words.0
+rows_words_get columns (suc n) cells (suc i) h words =
+    let after : drop (i * length columns) (drop (length columns) cells) ≡ drop (suc i * length columns) cells =
+    drop_drop (i * length columns) (length columns) cells ∙ ap (λ k. drop k cells) (sym (suc-mul i (length columns))) in
+    rw (← after) (rows_words_get columns n (drop (length columns) cells) i (omega arith) words.1)
+
 pub take_more : {A : Type 0} (i : ℕ) (xs : List A) (x : A) → slice_get xs i ≡ Some x → take (i + 1) xs ≡ take i xs ++ x ∷ []
 take_more i [] x e = cc e
 take_more zero (y ∷ xs) x e = let same : y ≡ x = cc e in rw same refl
@@ -141,21 +179,24 @@ take_more (suc i) (y ∷ xs) x e = let more = rw (add-one i) at (take_more i xs 
 
 -- the cells of a row, up to a place
 pub record IsPartOfRow (columns : List Column) (values : List Value) (old new : List (Option ℕ)) (i : ℕ) : Type 0 where
-  pub behind : take (length old) new ≡ old
+  pub kept : take (length old) new ≡ old
   pub width : length new ≡ length old + i
   pub row : values_of (take i columns) (drop (length old) new) ≡ take i values
+  pub words : AreWords (take i columns) (drop (length old) new)
 
 pub part_begun : (columns : List Column) (values : List Value) (old : List (Option ℕ)) → IsPartOfRow columns values old old 0
-part_begun columns values old = record { behind = take_all (length old) old (omega arith); width = omega arith; row = refl }
+part_begun columns values old = record { kept = take_all (length old) old (omega arith); width = omega arith; row = refl; words = tt }
 
 pub part_more : (columns : List Column) (values : List Value) (old new new2 : List (Option ℕ)) (i : ℕ) (c : Column) (v : Value) (cell : Option ℕ)
-    → IsPartOfRow columns values old new i → slice_get columns i ≡ Some c → slice_get values i ≡ Some v → value_from c.1 cell ≡ v → new2 ≡ new ++ cell ∷ []
+    → IsPartOfRow columns values old new i → slice_get columns i ≡ Some c → slice_get values i ≡ Some v → value_from c.1 cell ≡ v → cell ≡ word_from c.1 v → new2 ≡ new ++ cell ∷ []
     → IsPartOfRow columns values old new2 (i + 1)
-part_more columns values old new new2 i c v cell part e f is after = record {
-  behind = rw after (take-append-le (length old) new (cell ∷ []) (omega (arith, part.width)) ∙ part.behind);
+part_more columns values old new new2 i c v cell part e f is word after = record {
+  kept = rw after (take-append-le (length old) new (cell ∷ []) (omega (arith, part.width)) ∙ part.kept);
   width = rw after (length-append new (cell ∷ []) ∙ omega (arith, part.width));
   row = rw (after, take_more i columns c e, take_more i values v f, drop-append-le (length old) new (cell ∷ []) (omega (arith, part.width)))
       (values_push (take i columns) (drop (length old) new) c cell sizes ∙ rw (part.row, is) refl);
+  words = rw (after, take_more i columns c e, drop-append-le (length old) new (cell ∷ []) (omega (arith, part.width)))
+      (words_push (take i columns) (drop (length old) new) c cell sizes part.words (rw is (sym word)));
 }
   where
     there : i < length columns
@@ -169,19 +210,28 @@ pub part_whole : (columns : List Column) (values : List Value) (old new : List (
 part_whole columns values old new i kinds past within part =
     let size = kinds_length columns values kinds in
     record {
-      behind = part.behind;
+      kept = part.kept;
       width = omega (arith, part.width, size);
       row = rw (take_all i columns (omega (arith, size)), take_all i values past) at part.row;
+      words = rw (take_all i columns (omega (arith, size))) at part.words;
     }
 
 -- a table's cells with one more row
 pub rows_after : (columns : List Column) (n : ℕ) (values : List Value) (old new : List (Option ℕ)) → length old ≡ n * length columns → AddsRow columns values old new
     → rows_of columns (n + 1) new ≡ rows_of columns n old ++ values ∷ []
 rows_after columns n values old new total adds =
-    let parts : old ++ drop (length old) new ≡ new = rw adds.behind at (take-append-drop (length old) new) in
+    let parts : old ++ drop (length old) new ≡ new = rw adds.kept at (take-append-drop (length old) new) in
     let width : length (drop (length old) new) ≡ length columns = length-drop (length old) new ∙ omega (arith, adds.width) in
     let pushed = rows_push columns n old (drop (length old) new) total width in
     rw (add-one n, ← parts) (pushed ∙ rw adds.row refl)
+
+-- so they are words still
+pub words_after : (columns : List Column) (n : ℕ) (values : List Value) (old new : List (Option ℕ)) → length old ≡ n * length columns → AddsRow columns values old new → RowsAreWords columns n old
+    → RowsAreWords columns (n + 1) new
+words_after columns n values old new total adds h =
+    let parts : old ++ drop (length old) new ≡ new = rw adds.kept at (take-append-drop (length old) new) in
+    let width : length (drop (length old) new) ≡ length columns = length-drop (length old) new ∙ omega (arith, adds.width) in
+    rw (add-one n, ← parts) (rows_words_push columns n old (drop (length old) new) total width h adds.words)
 
 pub total_after : (n w a b : ℕ) → a ≡ n * w → b ≡ a + w → b ≡ (n + 1) * w
 total_after n w a b e f = rw (add-one n) (f ∙ rw e (sym (suc-mul n w)))

@@ -7,8 +7,8 @@ use Rattle.adfs_base.specs.declared.value.Kind.{Kind}
 use Rattle.adfs_base.specs.declared.value.Value.{Value}
 use Rattle.adfs_base.specs.declared.value.Value.TheVariants as value
 use Rattle.element_store.specs.Columns.{Column, column_of, named, slot_from, slot_of, value_of}
-use Rattle.element_store.specs.Tables.{values_of}
-use Rattle.element_store.specs.Words.{value_from}
+use Rattle.element_store.specs.Tables.{AreWords, values_of}
+use Rattle.element_store.specs.Words.{value_from, word_from}
 use Rattle.element_store.proofs.PositionFacts.{no_place, place_is}
 
 slot_at : (n : ℕ) (cs : List Column) (property k : ℕ) (c : Column) → position_or_len (nat_eq property) (keys_of cs) ≡ k → slice_get cs k ≡ Some c → slot_from n cs property ≡ Some (n + k, c.1)
@@ -94,6 +94,24 @@ slot_value n (d ∷ ds) (x ∷ xs) property m j kind cell e at got = by (nat_eq 
         later : (i : ℕ) → m ≡ n + i → slice_get (x ∷ xs) i ≡ Some cell → value_of (named ds (values_of ds xs)) property ≡ value_from kind cell
         later zero place g = absurd (omega (arith, place, (within f).0))
         later (suc i) place g = more i kind cell f (omega (arith, place)) g
+
+-- the word of the value under a property
+pub slot_word : (n : ℕ) (cs : List Column) (cells : List (Option ℕ)) (property m j : ℕ) (kind : Kind) (cell : Option ℕ) → slot_from n cs property ≡ Some (m, kind) → m ≡ n + j → slice_get cells j ≡ Some cell → AreWords cs cells
+    → word_from kind (value_from kind cell) ≡ cell
+slot_word n [] cells property m j kind cell e at got words = cc e
+slot_word n (d ∷ ds) [] property m j kind cell e at got words = cc got
+slot_word n (d ∷ ds) (x ∷ xs) property m j kind cell e at got words = by (nat_eq property d.0) e j at got (λ f i place g. slot_word (n + 1) ds xs property m i kind cell f place g words.1)
+  where
+    by : (b : Bool) → cond b (Some (n, d.1)) (slot_from (n + 1) ds property) ≡ Some (m, kind) → (i : ℕ) → m ≡ n + i → slice_get (x ∷ xs) i ≡ Some cell
+        → (slot_from (n + 1) ds property ≡ Some (m, kind) → (k : ℕ) → m ≡ n + 1 + k → slice_get xs k ≡ Some cell → word_from kind (value_from kind cell) ≡ cell)
+        → word_from kind (value_from kind cell) ≡ cell
+    by true f zero place g more =
+        let types = kind_is_first n d.1 m kind f in
+        let word : x ≡ cell = cc g in
+        rw (← types, ← word) words.0
+    by true f (suc i) place g more = absurd (omega (arith, place, place_is_first n d.1 m kind f))
+    by false f zero place g more = absurd (omega (arith, place, (slot_within (n + 1) ds property m kind f).0))
+    by false f (suc i) place g more = more f i (omega (arith, place)) g
 
 pub slot_null : (n : ℕ) (cs : List Column) (vs : List Value) (property : ℕ) → slot_from n cs property ≡ None → value_of (named cs vs) property ≡ value.Null
 slot_null n [] vs property e = refl

@@ -1,5 +1,5 @@
 -- Columns, and values under them.
-use Rattle.std.specs.Prelude.{◌≡◌, ℕ, ◌+◌, ◌<◌, if◌then◌else◌, List, [], ◌∷◌, length, Option, Some, None, position, nat_eq, slice_index_or}
+use Rattle.std.specs.Prelude.{ℕ, ◌+◌, if◌then◌else◌, List, [], ◌∷◌, Option, Some, None, position, nat_eq}
 use Rattle.std.specs.Map.{keys_of}
 use Rattle.adfs_base.specs.declared.value.Kind.{Kind}
 use Rattle.adfs_base.specs.declared.value.Value.{Value}
@@ -25,10 +25,6 @@ slot_from n (c ∷ cs) property = if nat_eq property c.0 then Some (n, c.1) else
 
 abbrev pub slot_of : List Column → ℕ → Option (ℕ × Kind)
 slot_of columns property = slot_from 0 columns property
-
--- The columns of properties stand at the properties' numbers.
-abbrev pub AreNear : List (Option (ℕ × Kind)) → List Column → Type 0
-AreNear near columns = (property : ℕ) → property < length near → slice_index_or near property None ≡ slot_of columns property
 
 -- A row has a value for each column, of the column's kind.
 abbrev pub HaveKinds : List Column → List Value → Type 0

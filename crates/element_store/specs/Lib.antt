@@ -2,5 +2,6 @@ pub mod Bits
 pub mod Cells
 pub mod Columns
 pub mod Elements
+pub mod Slots
 pub mod Tables
 pub mod Words

@@ -1,9 +1,15 @@
 //! Words, each of which may be missing.
+//!
+//! A bit beside each word says whether it is there. It is looked at only where the word is the one that stands for a
+//! missing one, so nearly each word is read by one load.
 ghost use Rattle.std.specs.Prelude.{◌≡◌, ◌<◌, ◌≤◌, ◌^◌, ◌++◌, ◌∷◌, [], OnOk, OnErr, Some, length, slice_get, take};
 
 use crate::bits::Bits;
 use std::alloc::{AllocError, Global};
 use std::marker::Model;
+
+/// The word that stands where one is missing. A word that is there may be this one too.
+const MISSING: u64 = 0xFFFF_FFFF_8000_0000;
 
 /// A list of words, each of which may be missing, seen as a list of options.
 #[derive(Drop)]
@@ -13,14 +19,14 @@ pub(crate) struct Cells {
 }
 
 impl Model for Cells {
-    ghost use Rattle.std.specs.Prelude.{List, ℕ, Option, ◌≡◌, length};
-    ghost use Rattle.element_store.specs.Cells.{words_where};
+    ghost use Rattle.std.specs.Prelude.{List, ℕ, Option};
+    ghost use Rattle.element_store.specs.Cells.{AreCells, words_where};
 
     ghost Value = { List (Option ℕ) };
 
     ghost view = { λ a. words_where a.present a.words.items };
 
-    ghost invariant = { λ a. length a.present ≡ length a.words.items };
+    ghost invariant = { λ a. AreCells a.present a.words.items };
 }
 
 impl Cells {
@@ -47,8 +53,12 @@ impl Cells {
         requires { place < length self.now }
         ensures { slice_get self.now place ≡ Some result }
     {
+        let word = self.words[place];
+        if word != MISSING {
+            return Some(word);
+        }
         if self.present.get(place) {
-            Some(self.words[place])
+            Some(word)
         } else {
             None
         }
@@ -61,7 +71,7 @@ impl Cells {
     {
         let len = self.words.len();
         self.present.push(word.is_some())?;
-        if self.words.push(word.unwrap_or(0)).is_err() {
+        if self.words.push(word.unwrap_or(MISSING)).is_err() {
             self.present.truncate(len);
             return Err(AllocError);
         }

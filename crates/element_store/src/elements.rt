@@ -8,6 +8,7 @@ ghost use Rattle.std.specs.List.{flat_map};
 
 use crate::columns::Columns;
 use crate::list::ElementList;
+use crate::row::Row;
 use crate::table::Table;
 use adfs_base::Value;
 use indexmap::IndexSet;
@@ -41,27 +42,21 @@ fn table_of(tables: &[Table], number: u32) -> &Table
     requires within { number < length (flat_map labelled tables.now) }
     ensures { HasElement tables.now number result.now }
 {
+    if tables.len() == 1 {
+        return &tables[0];
+    }
     let later = tables.partition_point(|table| table.first() <= number);
     &tables[later - 1]
 }
 
-/// The label of an element.
-pub(crate) fn label_at(tables: &[Table], number: u32) -> u32
+/// What an element has besides its key.
+pub(crate) fn row_of(tables: &[Table], number: u32) -> Row<'_>
     requires stacked { AreStacked 0 tables.now }
     requires within { number < length (flat_map labelled tables.now) }
-    ensures { option_map (λ r. r.0) (slice_get (flat_map labelled tables.now) number) ≡ Some result }
-{
-    table_of(tables, number).label()
-}
-
-/// The value that an element has of a property; null where its table has no such column.
-pub(crate) fn value_at(tables: &[Table], number: u32, property: u32) -> Value
-    requires stacked { AreStacked 0 tables.now }
-    requires within { number < length (flat_map labelled tables.now) }
-    ensures { option_map (λ r. value_of r.1 property) (slice_get (flat_map labelled tables.now) number) ≡ Some result }
+    ensures { slice_get (flat_map labelled tables.now) number ≡ Some result }
 {
     let table = table_of(tables, number);
-    table.value(number - table.first(), property)
+    Row::new(table, number - table.first())
 }
 
 impl Elements {
@@ -116,7 +111,7 @@ impl Elements {
         ensures { option_map (λ e. (e.key, e.label)) (slice_get self.now.elements number) ≡ Some result }
     {
         let key = self.keys.as_slice()[number as usize];
-        (key, label_at(&self.tables, number))
+        (key, row_of(&self.tables, number).label())
     }
 
     /// The value that an element has of a property; null where its table has no such column.
@@ -124,7 +119,7 @@ impl Elements {
         requires { number < length self.now.elements }
         ensures { option_map (λ e. value_of e.values property) (slice_get self.now.elements number) ≡ Some result }
     {
-        value_at(&self.tables, number, property)
+        row_of(&self.tables, number).value(property)
     }
 
     /// Begins the next table. After running out of memory nothing has changed.

@@ -1,12 +1,13 @@
 //! Elements that aren't found by their keys.
-ghost use Rattle.std.specs.Prelude.{◌≡◌, ◌<◌, Some, length, slice_get};
+ghost use Rattle.std.specs.Prelude.{◌≡◌, ◌<◌, ℕ, List, Some, length, slice_get};
 ghost use Rattle.std.specs.List.{flat_map};
 ghost use Rattle.std.specs.Option.{option_map};
-ghost use Rattle.element_store.specs.Columns.{value_of};
+ghost use Rattle.element_store.specs.Columns.{Cell, value_of};
 ghost use Rattle.element_store.specs.Elements.{HaveRows, joined};
 ghost use Rattle.element_store.specs.Tables.{labelled};
 
-use crate::elements::{label_at, value_at};
+use crate::elements::row_of;
+use crate::row::Row;
 use crate::table::Table;
 use adfs_base::Value;
 use std::marker::Model;
@@ -56,12 +57,20 @@ impl ElementList {
         self.keys[number as usize]
     }
 
+    /// What an element has besides its key.
+    pub fn row(&self, number: u32) -> Row<'_>
+        requires { number < length self.now }
+        ensures { option_map {U = ℕ × List (ℕ × Cell)} (λ e. (e.label, e.values)) (slice_get self.now number) ≡ Some result }
+    {
+        row_of(&self.tables, number)
+    }
+
     /// The label of an element.
     pub fn label(&self, number: u32) -> u32
         requires { number < length self.now }
         ensures { option_map (λ e. e.label) (slice_get self.now number) ≡ Some result }
     {
-        label_at(&self.tables, number)
+        self.row(number).label()
     }
 
     /// The value that an element has of a property; null where its table has no such column.
@@ -69,6 +78,6 @@ impl ElementList {
         requires { number < length self.now }
         ensures { option_map (λ e. value_of e.values property) (slice_get self.now number) ≡ Some result }
     {
-        value_at(&self.tables, number, property)
+        self.row(number).value(property)
     }
 }

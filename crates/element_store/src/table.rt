@@ -1,13 +1,13 @@
 //! One table of elements.
-ghost use Rattle.std.specs.Prelude.{◌≡◌, ◌<◌, ◌+◌, ◌-◌, ◌^◌, ◌++◌, ◌∷◌, [], IfOk, OnOk, OnErr, Some, length, slice_get};
-ghost use Rattle.std.specs.Option.{option_map};
-ghost use Rattle.element_store.specs.Columns.{HaveKinds, named, value_of};
-ghost use Rattle.element_store.specs.Tables.{AddsRow};
+ghost use Rattle.std.specs.Prelude.{◌≡◌, ◌<◌, ◌+◌, ◌-◌, ◌^◌, ◌++◌, ◌∷◌, [], IfOk, OnOk, OnErr, length};
+ghost use Rattle.element_store.specs.Columns.{HaveKinds, value_of};
+ghost use Rattle.element_store.specs.Tables.{AddsRow, IsRow, row_at};
+ghost use Rattle.element_store.specs.Words as words;
 
 use crate::cells::Cells;
 use crate::columns::Columns;
-use crate::near::{near_columns, slot};
-use crate::words::{value_from, word_of};
+use crate::near::{Slot, held_of, near_columns, near_slot};
+use crate::words::{value_from, word_from};
 use adfs_base::{Kind, Value};
 use std::alloc::{AllocError, Global};
 use std::marker::Model;
@@ -20,7 +20,7 @@ pub(crate) struct Table {
     label: u32,
     rows: u32,
     columns: Columns,
-    near: Vec<Option<(usize, Kind)>>,
+    near: Vec<Slot>,
     cells: Cells,
 }
 
@@ -88,22 +88,43 @@ impl Table {
         Ok(())
     }
 
-    /// The value that a row has of a property, which is null where the table has no such column.
-    pub(crate) fn value(&self, row: u32, property: u32) -> Value
+    /// The place of the first cell of a row.
+    pub(crate) fn start(&self, row: u32) -> usize
         requires { row < length self.now.rows }
-        ensures { option_map (λ values. value_of (named self.now.columns values) property) (slice_get self.now.rows row) ≡ Some result }
+        ensures { IsRow self.now row result }
     {
-        match slot(&self.columns, &self.near, property) {
+        // What `len` promises keeps the product in range.
+        let _cells = self.cells.len();
+        row as usize * self.columns.len()
+    }
+
+    /// The value that a row whose cells begin at a place has of a property; null where the table has no such column.
+    pub(crate) fn value(&self, row: u32, start: usize, property: u32) -> Value
+        requires { IsRow self.now row start }
+        ensures { result ≡ value_of (row_at self.now row).1 property }
+    {
+        match near_slot(&self.columns, &self.near, property).column() {
             Some((place, kind)) => {
-                // What `len` promises keeps the sum below in range.
+                // What `len` promises keeps the sum in range.
                 let _cells = self.cells.len();
-                value_from(
-                    kind,
-                    self.cells.get(row as usize * self.columns.len() + place),
-                )
+                value_from(kind, self.cells.get(start + place))
             }
             None => Value::Null,
         }
+    }
+
+    /// The word of that value among those of a kind; none where it is null or of another kind.
+    pub(crate) fn word(&self, row: u32, start: usize, property: u32, kind: Kind) -> Option<u64>
+        requires { IsRow self.now row start }
+        ensures { result ≡ words.word_from kind (value_of (row_at self.now row).1 property) }
+    {
+        let slot = near_slot(&self.columns, &self.near, property);
+        if slot.held != held_of(kind) {
+            return None;
+        }
+        // What `len` promises keeps the sum in range.
+        let _cells = self.cells.len();
+        self.cells.get(start + slot.place)
     }
 }
 
@@ -116,7 +137,7 @@ fn push_words(columns: &Columns, values: &[Value], cells: &mut Cells) -> Result<
     let start = cells.len();
     for i in 0..values.len() {
         let (_, kind) = columns.get(i);
-        if cells.push(word_of(values[i], kind)).is_err() {
+        if cells.push(word_from(kind, values[i])).is_err() {
             cells.truncate(start);
             return Err(AllocError);
         }

@@ -5,17 +5,17 @@ ghost use Rattle.element_store.specs.Words.{HasKind};
 
 use adfs_base::{Kind, Value};
 
-/// The word of a value of this kind. Null has none.
-pub(crate) fn word_of(value: Value, kind: Kind) -> Option<u64>
-    requires { HasKind kind value }
-    ensures { words.value_from kind result ≡ value }
+/// The word of a value among those of a kind; none where it is null or of another kind.
+pub fn word_from(kind: Kind, value: Value) -> Option<u64>
+    ensures word { result ≡ words.word_from kind value }
+    ensures back { HasKind kind value → words.value_from kind result ≡ value }
 {
-    match value {
-        Value::Null => None,
-        Value::Int(number) => Some(number.cast_unsigned()),
-        Value::Text(number) => Some(number as u64),
-        Value::Bool(truth) => Some(truth as u64),
-        Value::Date(day) => Some(day.cast_unsigned() as u64),
+    match (kind, value) {
+        (Kind::Int, Value::Int(number)) => Some(number.cast_unsigned()),
+        (Kind::Text, Value::Text(number)) => Some(u64::from(number)),
+        (Kind::Bool, Value::Bool(truth)) => Some(u64::from(truth)),
+        (Kind::Date, Value::Date(day)) => Some(u64::from(day.cast_unsigned())),
+        _ => None,
     }
 }
 

@@ -1,7 +1,8 @@
 //! What workers share, as plain data.
 ghost use Rattle.std.specs.Prelude.{◌≡◌, ℕ, ◌+◌, ◌*◌, ◌<◌, ◌≤◌, if◌then◌else◌, length, slice_index, OnOk, IfOk, IfErr, IsOkAnd, IsSomeAnd, is_some, true, false, Some, replicate, slice_get};
 ghost use Rattle.adfs_base.specs.Shape.{pool_of};
-ghost use Rattle.fabric.specs.Calls.{can_claim, claim_answer, after_claim, after_retire, can_charge, charge_answer, after_charge, after_discharge, can_fetch, fetch_answer, after_fetch, empty_buffer, after_restore, after_post, can_pick, pick_answer, after_pick, can_push, after_push, pop_answer, after_pop, mark_answer, after_close};
+ghost use Rattle.fabric.specs.Calls.{can_claim, claim_answer, after_claim, after_retire, can_charge, charge_answer, after_charge, after_discharge, can_fetch, fetch_answer, after_fetch};
+ghost use Rattle.fabric.specs.Calls.{empty_buffer, after_restore, after_post, can_pick, pick_answer, after_pick, can_push, after_push, pop_answer, after_pop, mark_answer, after_close};
 ghost use Rattle.fabric.specs.Queue.{Stock, empty_queue, full_stock};
 ghost use Rattle.fabric.specs.Shared.{Shared, machine_of, IsWorkerOf, IsUnit, IsWordOf, IsMessageStage, place, used_at, flying_at, cursor_at, roots_at, enrolled_at, pool_at, word_at, inbox_place, inbox_at, room_of, start};
 

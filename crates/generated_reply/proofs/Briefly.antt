@@ -1,6 +1,6 @@
 -- What is told of a graph, from what its query came to.
 use Rattle.std.proofs.Common.{◌≡◌, ◌∙◌, ◌++◌, ap, refl, sym, subst, ℕ, Bool, true, false, List, [], ◌∷◌, map, IfOk, MatchResult, OnOk, Result, Ok, Err}
-use Rattle.adfs_base.specs.declared.name.NoMemory.{NoMemory}
+use Rattle.adfs_base.specs.declared.no_memory.NoMemory.{NoMemory}
 use Rattle.adfs_base.specs.declared.value.Value.{Value}
 use Rattle.graph_tables.specs.Graph.{IsWhole, PropertyGraph}
 use Rattle.graph_tables.specs.Properties.{SchemaLists}

@@ -10,13 +10,14 @@ ghost use Rattle.graph_tables.specs.Properties.{kind_eq, placed};
 
 use crate::element_kind::{ElementKind, key_count};
 use crate::faults::{Place, TableFault, TableKind};
-use crate::names::{behind, is_name};
+use crate::names::is_name;
 use crate::properties::Properties;
 use crate::record_cells::{cell, find_cell};
 use adfs_base::{Kind, NoMemory};
 use csv::ByteRecord;
 use element_store::Columns;
 use std::alloc::Global;
+use text_lines::after;
 
 /// A cell of a header.
 #[derive(Clone, Copy)]
@@ -53,7 +54,7 @@ fn parts(cell: &[u8]) -> (&[u8], &[u8])
     ensures word { result.1.now ≡ after_first is_colon cell.now }
 {
     match colon_at(cell) {
-        Some(place) => (&cell[..place], behind(cell, place)),
+        Some(place) => (&cell[..place], after(cell, place)),
         None => (cell, &[]),
     }
 }

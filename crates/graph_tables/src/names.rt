@@ -1,5 +1,5 @@
 //! Names of labels and properties.
-ghost use Rattle.std.specs.Prelude.{◌≡◌, ◌<◌, ◌+◌, drop, length};
+ghost use Rattle.std.specs.Prelude.{◌≡◌};
 ghost use Rattle.std.specs.List.{list_all};
 ghost use Rattle.graph_tables.specs.Names as names;
 ghost use Rattle.graph_tables.specs.Names.{is_name_byte};
@@ -22,12 +22,4 @@ pub(crate) fn is_name(bytes: &[u8]) -> bool
         }
         None => false,
     }
-}
-
-/// The bytes after a place.
-pub(crate) fn behind(text: &[u8], place: usize) -> &[u8]
-    requires { place < length text.now }
-    ensures { result.now ≡ drop (place + 1) text.now }
-{
-    &text[place + 1..]
 }

@@ -3,6 +3,7 @@ use Rattle.std.proofs.Common.{◌≡◌, ℕ, zero, suc, ◌+◌, ◌-◌, ◌<�
 use Rattle.std.specs.Prelude.{◌⊎◌, slice_get, slice_index, unwrap_or}
 use Rattle.std.proofs.Common.{inl, inr}
 use Rattle.std.proofs.lemmas.Bool.{cases_lt, ne_eqb}
+use Rattle.std.proofs.Math.Bool.{and-false, and-true}
 use Rattle.std.specs.Option.{option_and_then, option_map}
 use Rattle.match_context.specs.Passes.{Passes, found_of, with_child}
 use Rattle.match_context.specs.Tree.{Below, Item, Leaf, Pass, after, answer}
@@ -26,6 +27,7 @@ use Rattle.plan_tree.specs.PlanTree.{PlanOverParts, taken, tree_of}
 use Rattle.plan_tree.specs.Told.{all_told, written}
 use Rattle.hop_kernels.specs.Entries.{after_answer, answer_along}
 use Rattle.hop_kernels.specs.Fitting.{GainsFit, HasRoom, IsThere}
+use Rattle.hop_kernels.specs.LabelTests.{is_labelled}
 use Rattle.hop_kernels.specs.Seeks.{GoesAlong, IsFirstSought, IsSought, answer_by, child_words, ends_at, is_end, kept_context, leads}
 use Rattle.hop_kernels.specs.Spots.{entry_in, no_entry}
 use Rattle.hop_kernels.proofs.EntryLists.{answer_at, bound-ahead, bound-at, entries-found, entry-is, if_any-answer, neighbour-ahead}
@@ -81,6 +83,43 @@ other-end texts q gains edge end words out part place i links d is below differs
     leads-of texts q gains edge (Some end) words (entry_in out part place i) (get_or links i d) false _ _ (entry-is (entry_at out part place i) (get_or links i d) (link-at out part place i links d is below))
     (ne_eqb (get_or links i d).other end differs) refl refl
 
+-- no child comes of an entry whose label isn't right
+pub other-label : (texts : List (List ℕ)) (q : Query) (gains : Gains) (edge : ℕ) (end : Option ℕ) (words : List ℕ) (out : Bool) (part : MachinePart) (place i : ℕ) (links : List Link) (d : Link)
+    → option_map (map link_of_entry) (slice_get (lists_of out part) place) ≡ Some links → i < length links → is_labelled texts q edge (get_or links i d) ≡ false
+    → leads texts q gains edge end words (entry_in out part place i) ≡ false
+other-label texts q gains edge end words out part place i links d is below differs =
+    leads-of texts q gains edge end words (entry_in out part place i) (get_or links i d) _ false _ (entry-is (entry_at out part place i) (get_or links i d) (link-at out part place i links d is below))
+    refl differs refl
+    ∙ and-false (ends_at end (get_or links i d).other)
+
+-- where no conjunct is asked, a child comes of an entry with the right label where it ends right
+pub leads-freely : (texts : List (List ℕ)) (q : Query) (gains : Gains) (edge : ℕ) (end : Option ℕ) (words : List ℕ) (out : Bool) (part : MachinePart) (place i : ℕ) (links : List Link) (d : Link) (ends : Bool)
+    → option_map (map link_of_entry) (slice_get (lists_of out part) place) ≡ Some links → i < length links → gains.conjuncts ≡ [] → is_labelled texts q edge (get_or links i d) ≡ true
+    → ends_at end (get_or links i d).other ≡ ends
+    → leads texts q gains edge end words (entry_in out part place i) ≡ ends
+leads-freely texts q gains edge end words out part place i links d ends is below free labelled are =
+    leads-of texts q gains edge end words (entry_in out part place i) (get_or links i d) ends true true (entry-is (entry_at out part place i) (get_or links i d) (link-at out part place i links d is below))
+    are labelled (ap (all_hold texts q (written q (edge_in (entry_in out part place i)) (captures_of q edge) words)) free)
+    ∙ and-true ends
+
+-- an entry is passed over, and those after it whose labels aren't right
+pub passed-on : (texts : List (List ℕ)) (q : Query) (gains : Gains) (edge : ℕ) (end : Option ℕ) (words : List ℕ) (out : Bool) (part : MachinePart) (place : ℕ) (links : List Link) (d : Link) (from at next : ℕ)
+    → option_map (map link_of_entry) (slice_get (lists_of out part) place) ≡ Some links → next ≤ length links
+    → ((i : ℕ) → from ≤ i → i < at → leads texts q gains edge end words (entry_in out part place i) ≡ false)
+    → leads texts q gains edge end words (entry_in out part place at) ≡ false
+    → ((i : ℕ) (e : Link) → at + 1 ≤ i → i < next → is_labelled texts q edge (get_or links i e) ≡ false)
+    → (i : ℕ) → from ≤ i → i < next → leads texts q gains edge end words (entry_in out part place i) ≡ false
+passed-on texts q gains edge end words out part place links d from at next is within before here wrong i low below =
+    elim (cases_lt i at) [
+      | inl less ↦ before i low less
+      | inr more ↦ elim (cases_lt at i) [
+        | inl after ↦ other-label texts q gains edge end words out part place i links d is (omega (arith, below, within)) (wrong i d (omega (arith, after)) below)
+        | inr most ↦
+            let same : at ≡ i = omega (arith, more, most) in
+            subst (λ n. leads texts q gains edge end words (entry_in out part place n) ≡ false) same here
+      ]
+    ]
+
 -- what is found by halves: nothing before the first entry of the bound end, nor after the last of them
 pub by_halves : (texts : List (List ℕ)) (q : Query) (gains : Gains) (edge end : ℕ) (aim : Option ℕ) (words : List ℕ) (out : Bool) (part : MachinePart) (place : ℕ) (links : List Link) (d : Link)
     (from first last at : ℕ) → aim ≡ Some end → option_map (map link_of_entry) (slice_get (lists_of out part) place) ≡ Some links
@@ -88,11 +127,11 @@ pub by_halves : (texts : List (List ℕ)) (q : Query) (gains : Gains) (edge end 
     → ((i : ℕ) (e : Link) → last ≤ i → i < length links → end < (get_or links i e).other)
     → ((i : ℕ) → first ≤ i → i < at → leads texts q gains edge aim words (entry_in out part place i) ≡ false)
     → (i : ℕ) → from ≤ i → (i < at) ⊎ ((last ≤ i) × (i < length links)) → leads texts q gains edge aim words (entry_in out part place i) ≡ false
-by_halves texts q gains edge end aim words out part place links d from first last at is_end is within before behind passed i after (inr past) =
-    let above : end < (get_or links i d).other = behind i d past.0 past.1 in
+by_halves texts q gains edge end aim words out part place links d from first last at is_end is within before beyond passed i after (inr past) =
+    let above : end < (get_or links i d).other = beyond i d past.0 past.1 in
     ap (λ o. leads texts q gains edge o words (entry_in out part place i)) is_end
     ∙ other-end texts q gains edge end words out part place i links d is past.1 (λ e. omega (arith, above, e))
-by_halves texts q gains edge end aim words out part place links d from first last at is_end is within before behind passed i after (inl below) =
+by_halves texts q gains edge end aim words out part place links d from first last at is_end is within before beyond passed i after (inl below) =
     elim (cases_lt i first) [
       | inl less ↦
           let low : (get_or links i d).other < end = before i d after less in

@@ -8,10 +8,10 @@ ghost use Rattle.hop_kernels.specs.Looks as looks;
 ghost use Rattle.hop_kernels.specs.Looks.{IsInSight};
 
 use crate::ground::Ground;
-use crate::spot::Spot;
-use crate::words::{kind_of, word_from, word_of};
+use crate::spot::{Spot, row_of};
+use crate::words::{kind_of, word_of};
 use adfs_base::{Kind, Value};
-use element_store::value_from;
+use element_store::{value_from, word_from};
 use match_context::Context;
 use stage_plan::Gains;
 use typed_expr::{Query, passes, value};
@@ -25,7 +25,7 @@ pub(crate) struct Look {
 }
 
 /// The most captures that a context has words for.
-const MOST_CAPTURES: usize = 39;
+pub(crate) const MOST_CAPTURES: usize = 39;
 
 fn is_valid(texts: &Texts, value: Value) -> bool
     ensures { result ≡ told.is_valid texts.now value }
@@ -70,6 +70,7 @@ fn word_seen(ground: &Ground<'_>, look: Option<Look>, context: &Context, place: 
         Some(look) if look.variable == capture.variable => word_of(
             ground.part,
             look.spot,
+            &row_of(ground.part, look.spot),
             &capture,
         ),
         _ => context.captured(query.variables.as_slice().len(), place as usize),
@@ -155,7 +156,26 @@ fn all_pass(ground: &Ground<'_>, conjuncts: &[u32], values: &[Value]) -> bool
     true
 }
 
-/// Whether the conjuncts hold that are whole then, as it is seen. No value is looked at where there are none.
+/// Whether the conjuncts hold that are whole then, as it is seen. The values are a table to work in: what it has of
+/// the captures that are read doesn't count.
+pub(crate) fn all_hold_by(
+    ground: &Ground<'_>,
+    gains: &Gains,
+    look: Option<Look>,
+    context: &Context,
+    values: &mut [Value; MOST_CAPTURES],
+) -> bool
+    requires room { HasRoom ground.now.query.now }
+    requires fits { ReadsFit ground.now.query.now gains.now }
+    requires sight { IsInSight ground.now.part.now look }
+    ensures { result ≡ answers.all_hold ground.now.texts.now ground.now.query.now (looks.words_seen ground.now.query.now ground.now.part.now look context.now.words) gains.now.conjuncts }
+{
+    let _word = first_word(context);
+    put_values(ground, look, context, gains.reads.as_slice(), values);
+    all_pass(ground, gains.conjuncts.as_slice(), values)
+}
+
+/// The same. No value is looked at where no conjunct is whole then.
 pub(crate) fn all_hold(
     ground: &Ground<'_>,
     gains: &Gains,
@@ -167,12 +187,9 @@ pub(crate) fn all_hold(
     requires sight { IsInSight ground.now.part.now look }
     ensures { result ≡ answers.all_hold ground.now.texts.now ground.now.query.now (looks.words_seen ground.now.query.now ground.now.part.now look context.now.words) gains.now.conjuncts }
 {
-    let conjuncts = gains.conjuncts.as_slice();
-    if conjuncts.is_empty() {
+    if gains.conjuncts.as_slice().is_empty() {
         return true;
     }
-    let _word = first_word(context);
     let mut values = [Value::Null; MOST_CAPTURES];
-    put_values(ground, look, context, gains.reads.as_slice(), &mut values);
-    all_pass(ground, conjuncts, &values)
+    all_hold_by(ground, gains, look, context, &mut values)
 }

@@ -1,5 +1,5 @@
 //! Places that are taken in one go, up to the first of which something comes.
-ghost use Rattle.std.specs.Prelude.{◌≡◌, ◌<◌, ◌≤◌, ◌+◌, ◌==◌, ◌^◌, ℕ, false, true, Some, None, [], ◌∷◌, length, map, slice_get, slice_index, slice_index_or};
+ghost use Rattle.std.specs.Prelude.{◌≡◌, ◌<◌, ◌≤◌, ◌+◌, ◌==◌, ◌^◌, ℕ, List, false, true, Some, None, [], ◌∷◌, length, map, slice_get, slice_index, slice_index_or};
 ghost use Rattle.std.specs.List.Sorted.{IsNonDecreasingBy};
 ghost use Rattle.std.specs.Option.{option_map};
 ghost use Rattle.match_context.specs.Tree.{Leaf};
@@ -9,6 +9,7 @@ ghost use Rattle.stage_plan.specs.declared.hop.Hop.TheVariants as hop;
 ghost use Rattle.plan_tree.specs.Answers as answers;
 ghost use Rattle.plan_tree.specs.Told as told;
 ghost use Rattle.hop_kernels.specs.Fitting.{GainsFit, HasRoom, IsThere, StageFits};
+ghost use Rattle.hop_kernels.specs.LabelTests.{is_labelled};
 ghost use Rattle.hop_kernels.specs.Looks.{with_end};
 ghost use Rattle.hop_kernels.specs.Seeks.{GoesAlong, IsFirstSought, IsSought, child_words, ends_at, leads};
 ghost use Rattle.hop_kernels.specs.Spots.{AreNumbered, AreRising, entry_in};
@@ -16,10 +17,10 @@ ghost use Rattle.hop_kernels.specs.Spots.{AreNumbered, AreRising, entry_in};
 use crate::arrival::arrive;
 use crate::ground::Ground;
 use crate::hops::{Step, Way, bind, others_told};
-use crate::look::{Look, all_hold, first_word};
+use crate::look::{Look, MOST_CAPTURES, all_hold_by, first_word};
 use crate::spot::{Spot, place_in};
 use crate::words::write;
-use adfs_base::CONTEXT_WORDS;
+use adfs_base::{CONTEXT_WORDS, Value};
 use match_context::{Context, Found, Frame};
 use partition::Link;
 use stage_plan::{Gains, Hop, Stage};
@@ -49,7 +50,7 @@ fn ends_at(end: Option<u32>, other: u32) -> bool
     }
 }
 
-// Whether a child comes of an entry.
+// Whether a child comes of an entry whose label is right. The values are a table to work in.
 fn leads(
     ground: &Ground<'_>,
     gains: &Gains,
@@ -57,17 +58,16 @@ fn leads(
     number: u32,
     entry: Link,
     context: &Context,
+    values: &mut [Value; MOST_CAPTURES],
 ) -> bool
     requires room { HasRoom ground.now.query.now }
     requires fits { GainsFit ground.now.query.now (Some aim.edge) gains.now }
     requires edge_there { aim.edge < length ground.now.query.now.variables }
     requires entry { option_map link_of_entry (entry_at aim.out ground.now.part.now aim.place number) ≡ Some entry }
+    requires label { is_labelled ground.now.texts.now ground.now.query.now aim.edge entry ≡ true }
     ensures { result ≡ leads ground.now.texts.now ground.now.query.now gains.now aim.edge aim.end context.now.words (entry_in aim.out ground.now.part.now aim.place number) }
 {
     if !ends_at(aim.end, entry.other) {
-        return false;
-    }
-    if !ground.is_labelled(aim.edge, entry.label) {
         return false;
     }
     let look = Look {
@@ -78,7 +78,76 @@ fn leads(
             number,
         },
     };
-    all_hold(ground, gains, Some(look), context)
+    all_hold_by(ground, gains, Some(look), context, values)
+}
+
+// The first entry from one on of which a child comes, below another, where conjuncts are asked; that other, if none does.
+fn first_holding(
+    ground: &Ground<'_>,
+    gains: &Gains,
+    aim: Aim,
+    entries: &[Link],
+    context: &Context,
+    from: usize,
+    to: usize,
+) -> usize
+    requires room { HasRoom ground.now.query.now }
+    requires fits { GainsFit ground.now.query.now (Some aim.edge) gains.now }
+    requires edge_there { aim.edge < length ground.now.query.now.variables }
+    requires entries { option_map (map link_of_entry) (slice_get (lists_of aim.out ground.now.part.now) aim.place) ≡ Some entries.now }
+    requires few { length entries.now < 2 ^ 32 }
+    requires rising { from ≤ to }
+    requires within { to ≤ length entries.now }
+    ensures rising { from ≤ result }
+    ensures within { result ≤ to }
+    ensures passed { (i : ℕ) → from ≤ i → i < result → leads ground.now.texts.now ground.now.query.now gains.now aim.edge aim.end context.now.words (entry_in aim.out ground.now.part.now aim.place i) ≡ false }
+    ensures found { result < to → leads ground.now.texts.now ground.now.query.now gains.now aim.edge aim.end context.now.words (entry_in aim.out ground.now.part.now aim.place result) ≡ true }
+{
+    let mut values = [Value::Null; MOST_CAPTURES];
+    let mut at = ground.next_labelled(aim.edge, entries, from, to);
+    'looks: while at < to {
+        if leads(
+            ground,
+            gains,
+            aim,
+            at as u32,
+            entries[at],
+            context,
+            &mut values,
+        ) {
+            return at;
+        }
+        at = ground.next_labelled(aim.edge, entries, at + 1, to);
+    }
+    at
+}
+
+// The same where no conjuncts are asked, whatever the context: the label and the other end tell.
+fn first_ending(
+    ground: &Ground<'_>,
+    gains: &Gains,
+    aim: Aim,
+    entries: &[Link],
+    from: usize,
+    to: usize,
+) -> usize
+    requires room { HasRoom ground.now.query.now }
+    requires free { gains.now.conjuncts ≡ [] }
+    requires edge_there { aim.edge < length ground.now.query.now.variables }
+    requires entries { option_map (map link_of_entry) (slice_get (lists_of aim.out ground.now.part.now) aim.place) ≡ Some entries.now }
+    requires few { length entries.now < 2 ^ 32 }
+    requires rising { from ≤ to }
+    requires within { to ≤ length entries.now }
+    ensures rising { from ≤ result }
+    ensures within { result ≤ to }
+    ensures passed { (words : List ℕ) → (i : ℕ) → from ≤ i → i < result → leads ground.now.texts.now ground.now.query.now gains.now aim.edge aim.end words (entry_in aim.out ground.now.part.now aim.place i) ≡ false }
+    ensures found { (words : List ℕ) → result < to → leads ground.now.texts.now ground.now.query.now gains.now aim.edge aim.end words (entry_in aim.out ground.now.part.now aim.place result) ≡ true }
+{
+    let mut at = ground.next_labelled(aim.edge, entries, from, to);
+    'looks: while at < to && !ends_at(aim.end, entries[at].other) {
+        at = ground.next_labelled(aim.edge, entries, at + 1, to);
+    }
+    at
 }
 
 // The first entry from one on of which a child comes, below another; that other, if none does.
@@ -103,14 +172,10 @@ fn first_leading(
     ensures passed { (i : ℕ) → from ≤ i → i < result → leads ground.now.texts.now ground.now.query.now gains.now aim.edge aim.end context.now.words (entry_in aim.out ground.now.part.now aim.place i) ≡ false }
     ensures found { result < to → leads ground.now.texts.now ground.now.query.now gains.now aim.edge aim.end context.now.words (entry_in aim.out ground.now.part.now aim.place result) ≡ true }
 {
-    let mut at = from;
-    'looks: while at < to {
-        if leads(ground, gains, aim, at as u32, entries[at], context) {
-            return at;
-        }
-        at += 1;
+    if gains.conjuncts.as_slice().is_empty() {
+        return first_ending(ground, gains, aim, entries, from, to);
     }
-    at
+    first_holding(ground, gains, aim, entries, context, from, to)
 }
 
 // The first entry whose other end isn't below one.
@@ -139,7 +204,7 @@ fn ends(entries: &[Link], from: usize, end: u32) -> (usize, usize)
     ensures order { result.0 ≤ result.1 }
     ensures within { result.1 ≤ length entries.now }
     ensures before { (i : ℕ) (d : Link) → from ≤ i → i < result.0 → (slice_index_or entries.now i d).other < end }
-    ensures behind { (i : ℕ) (d : Link) → result.1 ≤ i → i < length entries.now → end < (slice_index_or entries.now i d).other }
+    ensures past { (i : ℕ) (d : Link) → result.1 ≤ i → i < length entries.now → end < (slice_index_or entries.now i d).other }
 {
     let low = lower(entries, end);
     let high = upper(entries, end);
@@ -212,7 +277,8 @@ fn find(
     }
 }
 
-// Puts the child along an entry into the frame.
+// Puts the child along an entry into the frame. The context is copied once, to where the child waits, and what the
+// entry binds is written over it there.
 fn put_child(ground: &Ground<'_>, gains: &Gains, step: Step, entry: Link, frame: &mut Frame)
     requires room { HasRoom ground.now.query.now }
     requires fits { GainsFit ground.now.query.now (Some step.edge) gains.now }
@@ -222,7 +288,6 @@ fn put_child(ground: &Ground<'_>, gains: &Gains, step: Step, entry: Link, frame:
     ensures { frame.new ≡ record frame.old { wait = Some (record { words = child_words ground.now.query.now gains.now step.edge step.to frame.old.context.words (entry_in step.out ground.now.part.now step.place step.number) }, entry.machine) } }
 {
     frame.wait = Some((frame.context, entry.machine));
-    // It is written where it waits, so that the context is copied once.
     if let Some((child, _)) = &mut frame.wait {
         bind(&mut child.words, step, entry);
         write(

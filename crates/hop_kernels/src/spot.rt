@@ -1,14 +1,10 @@
-//! Elements of a part, and what is captured of them.
-ghost use Rattle.std.specs.Prelude.{◌≡◌, ◌<◌, IsSome, IfSome, length, slice_get, unwrap_or};
-ghost use Rattle.partition.specs.Parts.{entry_at};
-ghost use Rattle.pgql_meaning.specs.Captured as captured;
+//! Elements of a part, and what is read of them.
+ghost use Rattle.std.specs.Prelude.{◌≡◌, ◌<◌, IsSome, IfSome, length};
 ghost use Rattle.plan_tree.specs.Answers as answers;
-ghost use Rattle.plan_tree.specs.Answers.{edge_in};
-ghost use Rattle.hop_kernels.specs.Spots.{AreNumbered, element_at, element_in, entry_in, no_element};
+ghost use Rattle.hop_kernels.specs.Spots.{AreNumbered, element_at, element_in};
 
-use adfs_base::Value;
+use element_store::Row;
 use partition::Part;
-use typed_expr::What;
 
 /// Where an element stands in a part: a vertex by its place, or an edge by its number in a list of the vertex at a
 /// place.
@@ -31,35 +27,35 @@ pub(crate) fn place_in(part: &Part, word: u64) -> Option<u32>
     }
 }
 
-fn use_of_vertex(part: &Part, place: u32, what: What) -> Value
-    requires { IsSome (slice_get part.now.vertices place) }
-    ensures { result ≡ captured.use_of what (unwrap_or (slice_get part.now.vertices place) no_element) }
-{
-    match what {
-        What::Property(property, _) => part.vertex_value(place, property),
-        What::Id => Value::Int(part.vertex(place).1),
-        What::Label => Value::Text(part.vertex(place).2),
-    }
-}
-
-fn use_of_edge(part: &Part, place: u32, out: bool, number: u32, what: What) -> Value
-    requires { IsSome (entry_at out part.now place number) }
-    ensures { result ≡ captured.use_of what (edge_in (entry_in out part.now place number)) }
-{
-    match what {
-        What::Property(property, _) => part.entry_value(place, out, number, property),
-        What::Id => Value::Int(part.entry(place, out, number).key),
-        What::Label => Value::Text(part.entry(place, out, number).label),
-    }
-}
-
-/// x.p, id(x) or label(x) of an element.
-pub(crate) fn use_of(part: &Part, spot: Spot, what: What) -> Value
+/// The row of an element.
+pub(crate) fn row_of(part: &Part, spot: Spot) -> Row<'_>
     requires { IsSome (element_at part.now spot) }
-    ensures { result ≡ captured.use_of what (element_in part.now spot) }
+    ensures { result.1 ≡ (element_in part.now spot).values }
 {
     match spot {
-        Spot::Vertex(place) => use_of_vertex(part, place, what),
-        Spot::Edge { place, out, number } => use_of_edge(part, place, out, number, what),
+        Spot::Vertex(place) => part.vertex_row(place),
+        Spot::Edge { place, out, number } => part.entry_row(place, out, number),
+    }
+}
+
+/// The key of an element.
+pub(crate) fn key_of(part: &Part, spot: Spot) -> i64
+    requires { IsSome (element_at part.now spot) }
+    ensures { result ≡ (element_in part.now spot).key }
+{
+    match spot {
+        Spot::Vertex(place) => part.vertex_key(place),
+        Spot::Edge { place, out, number } => part.entry(place, out, number).key,
+    }
+}
+
+/// The number of the label of an element.
+pub(crate) fn label_of(part: &Part, spot: Spot) -> u32
+    requires { IsSome (element_at part.now spot) }
+    ensures { result ≡ (element_in part.now spot).label }
+{
+    match spot {
+        Spot::Vertex(place) => part.vertex_label(place),
+        Spot::Edge { place, out, number } => part.link(place, out, number).label,
     }
 }

@@ -6,8 +6,9 @@ ghost use Rattle.plan_tree.specs.Told as told;
 ghost use Rattle.hop_kernels.specs.Fitting.{HasRoom};
 ghost use Rattle.hop_kernels.specs.Spots.{element_at, element_in};
 
-use crate::spot::{Spot, use_of};
-use adfs_base::{CONTEXT_WORDS, Kind, Value};
+use crate::spot::{Spot, key_of, label_of, row_of};
+use adfs_base::{CONTEXT_WORDS, Kind};
+use element_store::Row;
 use partition::Part;
 use typed_expr::{Capture, Query, What};
 
@@ -22,34 +23,17 @@ pub(crate) fn kind_of(what: What) -> Kind
     }
 }
 
-/// The word of a value among those of a kind; none where it is null or of another kind.
-pub(crate) fn word_from(kind: Kind, value: Value) -> Option<u64>
-    ensures { result ≡ told.word_from kind value }
-{
-    match (kind, value) {
-        (Kind::Int, Value::Int(number)) => Some(number.cast_unsigned()),
-        (Kind::Text, Value::Text(number)) => Some(u64::from(number)),
-        (Kind::Bool, Value::Bool(truth)) => Some(u64::from(truth)),
-        (Kind::Date, Value::Date(day)) => Some(u64::from(day.cast_unsigned())),
-        _ => None,
-    }
-}
-
-/// The word of what is captured of an element.
-pub(crate) fn word_of(part: &Part, spot: Spot, capture: &Capture) -> Option<u64>
-    requires { IsSome (element_at part.now spot) }
+/// The word of what is captured of an element, whose row that is.
+pub(crate) fn word_of(part: &Part, spot: Spot, row: &Row<'_>, capture: &Capture) -> Option<u64>
+    requires element { IsSome (element_at part.now spot) }
+    requires row { row.now.1 ≡ (element_in part.now spot).values }
     ensures { result ≡ told.word_of (element_in part.now spot) capture.now }
 {
-    word_from(kind_of(capture.what), use_of(part, spot, capture.what))
-}
-
-// The word of what the capture of a place captures of an element.
-fn word_at(part: &Part, query: &Query, spot: Spot, place: u32) -> Option<u64>
-    requires there { place < length query.now.captures }
-    requires element { IsSome (element_at part.now spot) }
-    ensures { result ≡ told.word_at query.now (element_in part.now spot) place }
-{
-    word_of(part, spot, &query.captures.as_slice()[place as usize])
+    match capture.what {
+        What::Property(property, kind) => row.word(property, kind),
+        What::Id => Some(key_of(part, spot).cast_unsigned()),
+        What::Label => Some(u64::from(label_of(part, spot))),
+    }
 }
 
 // Writes a captured value, or its null bit.
@@ -89,8 +73,9 @@ pub(crate) fn write(
     ensures { words.new ≡ told.written query.now (element_in part.now spot) places.now words.old }
 {
     let variables = query.variables.as_slice().len();
+    let row = row_of(part, spot);
     for place in places {
-        let word = word_at(part, query, spot, *place);
+        let word = word_of(part, spot, &row, &query.captures.as_slice()[*place as usize]);
         put_capture(words, variables, *place as usize, word);
     }
 }

@@ -161,6 +161,11 @@ module _ (machines : ℕ) (shared : Shared) (own : Own) (a : Lists) (out : Bool)
       let there = rw (slice_get-get_or shared.edges link.edge no_element less) at read in
       rw (entry_in place n, at) there
 
+-- an element's values, by its row
+pub values_of_row : (o : Option Element) (row : ℕ × List (ℕ × Cell)) → option_map {U = ℕ × List (ℕ × Cell)} (λ (e : Element). (e.label, e.values)) o ≡ Some row → option_map (λ (e : Element). e.values) o ≡ Some row.1
+values_of_row None row e = cc e
+values_of_row (Some element) row e = ap (option_map {T = ℕ × List (ℕ × Cell)} (λ r. r.1)) e
+
 pub within_list : {X : Type 0} (lists : List (List X)) (place degree : ℕ) → option_map length (slice_get lists place) ≡ Some degree → (n : ℕ) → n < degree
     → IsSome (option_and_then (λ list. slice_get list n) (slice_get lists place))
 within_list {X} lists place degree at n less = by (slice_get lists place) at

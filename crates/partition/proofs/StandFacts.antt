@@ -1,16 +1,14 @@
 -- How often vertices and edges stand in parts.
-use Rattle.std.proofs.Common.{◌≡◌, ◌≢◌, ◌∙◌, sym, ap, refl, arith, ℕ, zero, suc, ◌+◌, ◌<◌, ◌≤◌, ◌==◌, nat_eq, Bool, true, false, cond, List, [], ◌∷◌, ◌++◌, length, map, drop, slice_get, slice_index, count_by, Option, Some, None}
+use Rattle.std.proofs.Common.{◌≡◌, ◌∙◌, sym, ap, refl, arith, ℕ, zero, suc, ◌+◌, ◌<◌, ◌==◌, Bool, true, false, cond, List, [], ◌∷◌, length, map, slice_get, slice_index, count_by, Some}
 use Rattle.std.proofs.lemmas.Bool.Decides.{nat_tests}
 use Rattle.std.proofs.lemmas.Option.{slice_get-map}
 use Rattle.std.proofs.lemmas.List.Recursion.{is_count_by}
 use Rattle.std.specs.List.{filter, range_with_len}
-use Rattle.std.specs.Option.{option_map}
 use Rattle.graph_tables.specs.Graph.{Edge, PropertyGraph, Vertex}
 use Rattle.sorted_lists.specs.Sorted.{before_by, in_order, placed}
-use Rattle.partition.specs.Laws.{ListsOnce, PartsAreTheGraph, Stand, once_if}
+use Rattle.partition.specs.Laws.{ListsOnce, PartsAreTheGraph, once_if}
 use Rattle.partition.specs.Owners.{machine_of}
-use Rattle.partition.specs.Parts.{Entry, entries_of, entry_of, entry_order, lists_of, near_end, numbered, owners_in, part_of, part_with, vertices_of}
-use Rattle.partition.specs.declared.owner.Owner.{Owner}
+use Rattle.partition.specs.Parts.{Entry, entries_of, entry_of, entry_order, lists_of, near_end, numbered, owners_in, part_with, vertices_of}
 
 -- ---- counts
 

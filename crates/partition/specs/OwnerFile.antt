@@ -8,15 +8,13 @@ use Rattle.std.specs.Str.{bytes_eq}
 use Rattle.std.specs.Str.Lines.{lines}
 use Rattle.std.specs.Str.Parse.{digits_value}
 use Rattle.graph_tables.specs.Graph.{Vertex, vertex_of}
+use Rattle.text_lines.specs.Words.{is_space}
 use Rattle.value_text.specs.Numbers.{int_cell}
 use Rattle.partition.specs.Faults.{◌>>=◌}
 use Rattle.partition.specs.declared.fault.PartFault.{PartFault}
 use Rattle.partition.specs.declared.fault.PartFault.TheVariants as fault
 use Rattle.partition.specs.declared.owner.Owner.{Owner}
 use Rattle.partition.specs.declared.owner.Owner.TheVariants as owner
-
-abbrev pub is_space : ℕ → Bool
-is_space b = b == 32
 
 -- decimal digits without a leading zero, at least one
 abbrev pub is_plain : List ℕ → Bool

@@ -1,13 +1,12 @@
 //! One line of an owner file.
-ghost use Rattle.std.specs.Prelude.{◌≡◌, ℕ, IfSome, ◌<◌, ◌+◌, ◌-◌, ◌^◌, IsTrue, drop, length, min, position, true};
-ghost use Rattle.std.specs.Char.{is_ascii_digit};
-ghost use Rattle.std.specs.List.{after_first, before_first, list_all};
+ghost use Rattle.std.specs.Prelude.{◌≡◌, ℕ, IfSome, ◌<◌, ◌-◌, ◌^◌, IsTrue, length, min, true};
 ghost use Rattle.std.specs.Option.{option_map};
 ghost use Rattle.std.specs.Str.Parse.{digits_value};
-ghost use Rattle.partition.specs.OwnerFile.{capped, is_key, is_plain, is_space, named_by, vertex_named};
+ghost use Rattle.partition.specs.OwnerFile.{capped, is_key, is_plain, named_by, vertex_named};
 
 use graph_tables::Graph;
 use std::str;
+use text_lines::{all_digits, cut};
 use value_text::read_key;
 
 /// The vertex and the machine that a line names.
@@ -16,36 +15,6 @@ pub(crate) struct Named {
     pub(crate) vertex: u32,
     /// The greatest `u32` where the line's number is greater.
     pub(crate) machine: u32,
-}
-
-fn space_at(line: &[u8]) -> Option<usize>
-    ensures { result ≡ position is_space line.now }
-{
-    line.iter().position(|b| *b == b' ')
-}
-
-fn behind(text: &[u8], place: usize) -> &[u8]
-    requires { place < length text.now }
-    ensures { result.now ≡ drop (place + 1) text.now }
-{
-    &text[place + 1..]
-}
-
-// The parts of a line round its first space.
-fn words(line: &[u8]) -> (&[u8], &[u8])
-    ensures key { result.0.now ≡ before_first is_space line.now }
-    ensures machine { result.1.now ≡ after_first is_space line.now }
-{
-    match space_at(line) {
-        Some(place) => (&line[..place], behind(line, place)),
-        None => (line, &[]),
-    }
-}
-
-fn all_digits(digits: &[u8]) -> bool
-    ensures { result ≡ list_all is_ascii_digit digits.now }
-{
-    digits.iter().all(|b| b.is_ascii_digit())
 }
 
 // Whether the text is decimal digits without a leading zero.
@@ -102,7 +71,7 @@ pub(crate) fn named_by(line: &[u8], graph: &Graph) -> Option<Named>
     ensures named { option_map {U = ℕ × ℕ} (λ n. (n.vertex, n.machine)) result ≡ option_map capped (named_by graph.now.vertices line.now) }
     ensures within { IfSome result (λ n. n.vertex < length graph.now.vertices) }
 {
-    let (key, machine) = words(line);
+    let (key, machine) = cut(line)?;
     if !is_plain(machine) {
         return None;
     }

@@ -1,8 +1,8 @@
 //! A machine's part of a graph, and its readers.
-ghost use Rattle.std.specs.Prelude.{◌≡◌, ◌<◌, ◌^◌, ℤ, ℕ, IfSome, IsSome, Some, if◌then◌else◌, length, map, option_and_then, nat_eq, position, slice_get, slice_index};
+ghost use Rattle.std.specs.Prelude.{◌≡◌, ◌<◌, ◌^◌, ℤ, ℕ, List, IfSome, IsSome, Some, if◌then◌else◌, length, map, option_and_then, nat_eq, position, slice_get, slice_index};
 ghost use Rattle.std.specs.List.{AllByRecursion};
 ghost use Rattle.std.specs.Option.{option_map};
-ghost use Rattle.element_store.specs.Columns.{value_of};
+ghost use Rattle.element_store.specs.Columns.{Cell, value_of};
 ghost use Rattle.partition.specs.Kept.{IsPart, IsSpan, link_lists, part_in};
 ghost use Rattle.partition.specs.Parts.{adjacent_of, entry_at, link_of_entry, lists_of};
 
@@ -12,6 +12,7 @@ use crate::link::Link;
 use crate::lists::Own;
 use crate::shared::Shared;
 use adfs_base::Value;
+use element_store::Row;
 use std::alloc::Global;
 use std::marker::Model;
 use std::sync::Arc;
@@ -127,13 +128,21 @@ impl Part {
         self.shared.dealing.owners[vertex as usize]
     }
 
+    /// The label and the values of the vertex at a place: who reads several of them finds them once.
+    pub fn vertex_row(&self, place: u32) -> Row<'_>
+        requires { place < length self.now.vertices }
+        ensures { option_map {U = ℕ × List (ℕ × Cell)} (λ v. (v.label, v.values)) (slice_get self.now.vertices place) ≡ Some result }
+    {
+        let number = self.own.numbers[place as usize];
+        self.shared.vertices.row(number)
+    }
+
     /// The value that the vertex at a place has of a property; null where its table has no such property.
     pub fn vertex_value(&self, place: u32, property: u32) -> Value
         requires { place < length self.now.vertices }
         ensures { option_map (λ v. value_of v.values property) (slice_get self.now.vertices place) ≡ Some result }
     {
-        let number = self.own.numbers[place as usize];
-        self.shared.vertices.value(number, property)
+        self.vertex_row(place).value(property)
     }
 
     /// How many entries the outgoing list of the vertex at a place has, or the incoming one.
@@ -177,13 +186,22 @@ impl Part {
         }
     }
 
+    /// The values of the edge of an entry: who reads several of them finds them once. The entry's own label is told by
+    /// `link`.
+    pub fn entry_row(&self, place: u32, out: bool, no: u32) -> Row<'_>
+        requires { IsSome (entry_at out self.now place no) }
+        ensures { option_map {U = List (ℕ × Cell)} (λ e. e.values) (entry_at out self.now place no) ≡ Some result.1 }
+    {
+        let link = link_at(in_direction(out, &self.own), place, no);
+        self.shared.edges.row(link.edge)
+    }
+
     /// The value that the edge of an entry has of a property; null where its table has no such property.
     pub fn entry_value(&self, place: u32, out: bool, no: u32, property: u32) -> Value
         requires { IsSome (entry_at out self.now place no) }
         ensures { option_map (λ e. value_of e.values property) (entry_at out self.now place no) ≡ Some result }
     {
-        let link = link_at(in_direction(out, &self.own), place, no);
-        self.shared.edges.value(link.edge, property)
+        self.entry_row(place, out, no).value(property)
     }
 }
 

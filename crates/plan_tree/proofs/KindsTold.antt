@@ -16,7 +16,7 @@ use Rattle.adfs_base.specs.declared.value.Value.{Value}
 use Rattle.adfs_base.specs.declared.value.Value.TheVariants as value
 use Rattle.element_store.specs.Columns.{value_of}
 use Rattle.element_store.specs.Elements.{Element}
-use Rattle.element_store.specs.Words.{HasKind, value_from}
+use Rattle.element_store.specs.Words.{HasKind, value_from, word_from}
 use Rattle.graph_tables.specs.Graph.{FitsWords, HasType, HasTypes, IsLong, IsShown, without_ends}
 use Rattle.graph_tables.specs.Properties.{Property, SchemaLists}
 use Rattle.pgql_meaning.specs.Captured.{use_of}
@@ -31,7 +31,7 @@ use Rattle.value_text.specs.Dates.{IsDay}
 use Rattle.value_text.specs.Numbers.{is_i64}
 use Rattle.value_text.specs.Valid.{IsValid}
 use Rattle.plan_tree.specs.Laws.{KindsAreTold}
-use Rattle.plan_tree.specs.Told.{AreToldOf, IsTold, word_from}
+use Rattle.plan_tree.specs.Told.{AreToldOf, IsTold}
 use Rattle.plan_tree.proofs.Days.{first_day, last_day}
 
 -- the value is read back from its word

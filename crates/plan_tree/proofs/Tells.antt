@@ -12,7 +12,7 @@ use Rattle.adfs_base.specs.declared.value.Value.{Value}
 use Rattle.adfs_base.specs.declared.value.Value.TheVariants as value
 use Rattle.element_store.specs.Columns.{value_of}
 use Rattle.element_store.specs.Elements.{Element}
-use Rattle.element_store.specs.Words.{value_from}
+use Rattle.element_store.specs.Words.{value_from, word_from}
 use Rattle.graph_tables.specs.Graph.{IsShown, PropertyGraph, without_ends}
 use Rattle.match_context.specs.Words.{captured_in}
 use Rattle.pgql_meaning.specs.Captured.{captured, captured_value, element_at, element_of, use_of}
@@ -30,7 +30,7 @@ use Rattle.value_text.specs.Valid.{IsValid}
 use Rattle.stage_plan.specs.Moves.{is_edge}
 use Rattle.stage_plan.specs.Walk.{captures_of, conjunct_at, is_known, is_whole, places_from, uses, whole}
 use Rattle.plan_tree.specs.Answers.{all_hold, holds, is_of, labels_of, others}
-use Rattle.plan_tree.specs.Told.{AreTold, AreToldOf, IsTold, all_told, elements_for, is_told, is_told_at, is_valid, is_word, values, with_number, word_at, word_from, word_of, written}
+use Rattle.plan_tree.specs.Told.{AreTold, AreToldOf, IsTold, all_told, elements_for, is_told, is_told_at, is_valid, is_word, values, with_number, word_at, word_of, written}
 use Rattle.plan_tree.proofs.Agree.{at}
 use Rattle.plan_tree.proofs.Days.{valid-found}
 use Rattle.plan_tree.proofs.Values.{IsSame, val-same}

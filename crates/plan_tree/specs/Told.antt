@@ -1,7 +1,6 @@
 -- What is written into the words of a context, and what they say.
 use Rattle.std.specs.Prelude.{◌≡◌, ℕ, ◌+◌, ◌-◌, ◌^◌, ◌==◌, ◌&&◌, not, Bool, true, false, ℤ, pos, neg_ℤ, int_lt, List, [], ◌∷◌, length, nat_lt, bit_and, bit_or, slice_get, slice_index}
 use Rattle.std.specs.Prelude.{slice_set, Option, Some, None, if◌then◌else◌}
-use Rattle.std.specs.Int.{cast_unsigned, w32, w64}
 use Rattle.std.specs.List.{AllByRecursion, list_all}
 use Rattle.std.specs.Option.{option_and_then, option_map_or}
 use Rattle.adfs_base.specs.declared.value.Kind.{Kind}
@@ -9,7 +8,7 @@ use Rattle.adfs_base.specs.declared.value.Kind.TheVariants as kind
 use Rattle.adfs_base.specs.declared.value.Value.{Value}
 use Rattle.adfs_base.specs.declared.value.Value.TheVariants as value
 use Rattle.element_store.specs.Elements.{Element}
-use Rattle.element_store.specs.Words.{value_from}
+use Rattle.element_store.specs.Words.{value_from, word_from}
 use Rattle.graph_tables.specs.Graph.{PropertyGraph, without_ends}
 use Rattle.match_context.specs.Words.{captured_in}
 use Rattle.pgql_meaning.specs.Captured.{use_of}
@@ -17,14 +16,6 @@ use Rattle.result_collect.specs.Contexts.{kind_of, values_from}
 use Rattle.typed_expr.specs.declared.query.Capture.{Capture}
 use Rattle.typed_expr.specs.declared.query.Query.{Query}
 use Rattle.typed_expr.specs.declared.query.Variable.{Variable}
-
--- the word of a value among those of a kind; none where it is null or of another kind
-abbrev pub word_from : Kind → Value → Option ℕ
-word_from kind.Int (value.Int number) = Some (cast_unsigned w64 number)
-word_from kind.Text (value.Text number) = Some number
-word_from kind.Bool (value.Bool truth) = Some (if truth then 1 else 0)
-word_from kind.Date (value.Date day) = Some (cast_unsigned w32 day)
-word_from k v = None
 
 -- a day of the years 0000 to 9999
 abbrev pub is_day : ℤ → Bool

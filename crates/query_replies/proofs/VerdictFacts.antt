@@ -2,7 +2,7 @@
 use Rattle.std.proofs.Common.{◌≡◌, ◌≢◌, ℕ, ◌≤◌, nat_lt, Bool, true, false, if◌then◌else◌, List, Result, Ok, Err, IfOk, is_err, refl, sym, ap, subst, ◌∙◌, arith}
 use Rattle.std.proofs.lemmas.Grind.{common_steps}
 use Rattle.adfs_base.specs.declared.limits.TheConstants.{CONTEXT_WORDS}
-use Rattle.adfs_base.specs.declared.name.NoMemory.{NoMemory}
+use Rattle.adfs_base.specs.declared.no_memory.NoMemory.{NoMemory}
 use Rattle.graph_tables.specs.Graph.{PropertyGraph}
 use Rattle.graph_tables.specs.Properties.{SchemaLists}
 use Rattle.pgql_meaning.specs.Shown.{HasMeaning}

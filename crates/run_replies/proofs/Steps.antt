@@ -2,7 +2,7 @@
 use Rattle.std.proofs.Common.{◌≡◌, ℕ, ◌≤◌, map, ap, ◌∙◌, Option, Some, None, Result, Ok, Err, inl, inr, IfOk, IfSome, IfErr, MatchOption, arith, subst, refl}
 use Rattle.adfs_base.specs.Counts.{Rose}
 use Rattle.adfs_base.specs.Files.{Files}
-use Rattle.adfs_base.specs.declared.name.NoMemory.{NoMemory as OutOfMemory}
+use Rattle.adfs_base.specs.declared.no_memory.NoMemory.{NoMemory as OutOfMemory}
 use Rattle.generated_reply.specs.Summary.{Summarizes}
 use Rattle.graph_tables.specs.Graph.{PropertyGraph}
 use Rattle.graph_tables.specs.declared.faults.TableFault.{TableFault}

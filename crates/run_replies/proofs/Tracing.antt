@@ -2,7 +2,7 @@
 use Rattle.std.proofs.Common.{◌≡◌, ℕ, Bool, true, false, List, [], ◌∷◌, length, drop, map, Option, Some, None, Result, Ok, Err, IfOk, inl, inr, refl, sym, ap, subst, ◌∙◌, Global, Vec}
 use Rattle.std.specs.Str.Lines.{lines}
 use Rattle.adfs_base.specs.Shape.{Extents}
-use Rattle.adfs_base.specs.declared.name.NoMemory.{NoMemory}
+use Rattle.adfs_base.specs.declared.no_memory.NoMemory.{NoMemory}
 use Rattle.graph_tables.specs.Graph.{PropertyGraph}
 use Rattle.graph_tables.specs.Properties.{SchemaLists}
 use Rattle.match_context.specs.Tree.{Tree}

@@ -1,7 +1,7 @@
 -- What a trace that is taken again gives.
 use Rattle.std.specs.Prelude.{◌≡◌, ℕ, false, List, [], ◌∷◌, map, Result, Ok, Err, Vec}
 use Rattle.std.specs.Global.{Global}
-use Rattle.adfs_base.specs.declared.name.NoMemory.{NoMemory as OutOfMemory}
+use Rattle.adfs_base.specs.declared.no_memory.NoMemory.{NoMemory as OutOfMemory}
 use Rattle.query_replies.specs.declared.answers.Replies.{Replies}
 use Rattle.run_status.specs.Faults.{status_of_replay}
 use Rattle.run_status.specs.declared.status.Status.{Status}

@@ -1,7 +1,7 @@
 -- The leaves of a query's tree give its answer, and the answer its reply.
 use Rattle.std.proofs.Common.{◌≡◌, ℕ, List, Global, Vec, Result, Ok, Err, IfOk, sym, ap, subst, ◌∙◌}
 use Rattle.std.specs.List.Sorted.{IsPermutation}
-use Rattle.adfs_base.specs.declared.name.NoMemory.{NoMemory}
+use Rattle.adfs_base.specs.declared.no_memory.NoMemory.{NoMemory}
 use Rattle.adfs_base.specs.declared.value.Value.{Value}
 use Rattle.graph_tables.specs.Graph.{PropertyGraph}
 use Rattle.graph_tables.specs.Properties.{SchemaLists}

@@ -1,16 +1,23 @@
-//! The lines of a text, one at a time.
+//! The lines of a text, one at a time, and the words of a line.
 //!
 //! A line ends with a line feed, and a carriage return before it is dropped. The last line may lack its
 //! end, and then keeps a carriage return. A text that ends with a line feed has no empty line after it.
 //!
 //! A contract sees `Lines` as the list of the lines that are left (`lines` of std), so reading a line is
-//! taking the head of that list. Nothing here takes memory.
+//! taking the head of that list.
+//!
+//! All that reads lines finds here too what stands before the first space and after it (`cut`), the bytes after a
+//! place (`after`), the place of the first line feed (`feed_at`), and whether bytes are decimal digits (`all_digits`).
+//! Nothing here takes memory.
 #![tactic(auto)]
 
-ghost use Rattle.std.specs.Prelude.{◌≡◌, ◌∷◌, [], ◌==◌, ◌<◌, ◌≤◌, ◌+◌, drop, length, MatchOption, position};
+ghost use Rattle.std.specs.Prelude.{◌≡◌, ◌∷◌, [], ◌≤◌, ◌+◌, drop, length, MatchOption};
 ghost use Rattle.std.specs.Str.Lines.{lines, strip_carriage_return};
 
+mod words;
+
 use std::marker::Model;
+pub use words::{after, all_digits, cut, feed_at};
 
 /// Reads a text line by line. A contract sees the list of the lines that are left.
 #[derive(Drop)]
@@ -37,21 +44,6 @@ fn stripped(line: &[u8]) -> &[u8]
     }
 }
 
-// The place of the first line feed.
-fn feed_at(text: &[u8]) -> Option<usize>
-    ensures { result ≡ position (λ b. b == 10) text.now }
-{
-    text.iter().position(|b| *b == b'\n')
-}
-
-// The bytes after a place.
-fn behind(text: &[u8], n: usize) -> &[u8]
-    requires { n < length text.now }
-    ensures { result.now ≡ drop (n + 1) text.now }
-{
-    &text[n + 1..]
-}
-
 impl<'a> Lines<'a> {
     /// At the start of a text.
     #[tactic(auto, using(crate::proofs::LineFacts::few_lines))]
@@ -73,7 +65,7 @@ impl<'a> Lines<'a> {
         }
         match feed_at(rest) {
             Some(n) => {
-                self.rest = behind(rest, n);
+                self.rest = after(rest, n);
                 Some(stripped(&rest[..n]))
             }
             None => {

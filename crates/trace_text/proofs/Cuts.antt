@@ -5,7 +5,7 @@ use Rattle.std.proofs.Math.Seq.{drop-append-add, take-append_seam}
 use Rattle.std.proofs.lemmas.Grind.{common_steps}
 use Rattle.std.proofs.lemmas.List.Sums.{passes_at_first, split_at_first}
 use Rattle.std.specs.List.{after_first, before_first, list_all, position_or_len}
-use Rattle.trace_text.specs.Numbers.{has_space, is_space}
+use Rattle.text_lines.specs.Words.{has_space, is_space}
 
 -- no byte is a space
 abbrev pub is_word : List ℕ → Bool

@@ -15,7 +15,8 @@ use Rattle.trace_text.specs.declared.said.Sizes.{Sizes}
 use Rattle.trace_text.specs.Faults.{◌>>=◌}
 use Rattle.trace_text.specs.Headers.{IsHeader, after_word, are_in_limits, file_of, first_of, header_lines, header_of, header_with, is_between, is_file_text, is_part, limited, name_on, numbers_in, numbers_of, part_of, part_on, part_text, shape_on, shape_text, with_two}
 use Rattle.trace_text.specs.Laws.{HeadersAreReadAgain}
-use Rattle.trace_text.specs.Numbers.{is_space, number_of, triple_of}
+use Rattle.text_lines.specs.Words.{is_space}
+use Rattle.trace_text.specs.Numbers.{number_of, triple_of}
 use Rattle.trace_text.proofs.Cuts.{after_space, before_space, is_word, space_found}
 use Rattle.trace_text.proofs.Lines.{triple_decimals}
 use Rattle.trace_text.proofs.Numerals.{both, decimal_word, number_decimal}

@@ -11,7 +11,8 @@ use Rattle.trace_text.specs.declared.kind.Kind.{Kind}
 use Rattle.trace_text.specs.declared.kind.Kind.TheVariants as kind
 use Rattle.trace_text.specs.EventLines.{IsEvent, event_line}
 use Rattle.trace_text.specs.Kinds.{kind_named, kinds, word_of}
-use Rattle.trace_text.specs.Numbers.{has_space, is_space, number_of, pair_of, triple_of}
+use Rattle.text_lines.specs.Words.{has_space, is_space}
+use Rattle.trace_text.specs.Numbers.{number_of, pair_of, triple_of}
 use Rattle.trace_text.specs.Reading.{event_of, event_said}
 use Rattle.trace_text.proofs.Cuts.{after_space, before_space, is_word, space_found, text_cut}
 use Rattle.trace_text.proofs.Numerals.{decimal_number, decimal_word, number_decimal}

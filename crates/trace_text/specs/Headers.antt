@@ -12,7 +12,8 @@ use Rattle.trace_text.specs.declared.header.Header.{Header}
 use Rattle.trace_text.specs.declared.said.Sizes.{Sizes}
 use Rattle.trace_text.specs.Faults.{◌>>=◌}
 use Rattle.trace_text.specs.EventLines.{next_number}
-use Rattle.trace_text.specs.Numbers.{has_space, is_space, number_of, triple_of}
+use Rattle.text_lines.specs.Words.{has_space, is_space}
+use Rattle.trace_text.specs.Numbers.{number_of, triple_of}
 
 -- ---- what is written
 abbrev pub part_text : PartWord → List ℕ

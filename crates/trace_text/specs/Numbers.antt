@@ -1,9 +1,10 @@
 -- The numbers of a line: decimal, without leading zeros, below 2^32, one space between two.
 use Rattle.std.specs.Prelude.{ℕ, ◌^◌, ◌==◌, ◌&&◌, ◌||◌, not, nat_lt, if◌then◌else◌, Bool, false, List, [], ◌∷◌, length, Option, Some, None}
 use Rattle.std.specs.Char.{is_ascii_digit}
-use Rattle.std.specs.List.{after_first, before_first, list_all, position_or_len}
+use Rattle.std.specs.List.{after_first, before_first, list_all}
 use Rattle.std.specs.Option.{option_map, option_and_then}
 use Rattle.std.specs.Str.Parse.{digits_value}
+use Rattle.text_lines.specs.Words.{has_space, is_space}
 
 -- decimal digits without a leading zero, at least one
 abbrev pub is_plain : List ℕ → Bool
@@ -13,12 +14,6 @@ is_plain (digit ∷ rest) = list_all is_ascii_digit (digit ∷ rest) && (not (di
 -- the number that a text is
 abbrev pub number_of : List ℕ → Option ℕ
 number_of text = if is_plain text && nat_lt (digits_value 10 text) (2 ^ 32) then Some (digits_value 10 text) else None
-
-abbrev pub is_space : ℕ → Bool
-is_space b = b == 32
-
-abbrev pub has_space : List ℕ → Bool
-has_space text = nat_lt (position_or_len is_space text) (length text)
 
 -- the two numbers that a text is, and the three
 abbrev pub pair_of : List ℕ → Option (ℕ × ℕ)

@@ -7,7 +7,8 @@ use Rattle.dfs_worker.specs.declared.event.Event.TheVariants.{Claim, Retire, Adv
 use Rattle.trace_text.specs.declared.kind.Kind.{Kind}
 use Rattle.trace_text.specs.declared.kind.Kind.TheVariants as kind
 use Rattle.trace_text.specs.Kinds.{kind_named}
-use Rattle.trace_text.specs.Numbers.{number_of, pair_of, triple_of, has_space, is_space}
+use Rattle.text_lines.specs.Words.{has_space, is_space}
+use Rattle.trace_text.specs.Numbers.{number_of, pair_of, triple_of}
 
 abbrev pub event_said : Kind → List ℕ → Option Event
 event_said kind.Claim text = option_map (λ w. Claim w) (number_of text)

@@ -5,9 +5,10 @@ ghost use Rattle.dfs_worker.specs.declared.event.Event.TheVariants as event;
 ghost use Rattle.trace_text.specs.Reading.{event_of, event_said};
 
 use crate::kind::{Kind, kind_named};
-use crate::number::{cut, number, pair, put_next, triple};
+use crate::number::{number, pair, put_next, triple};
 use adfs_base::NoMemory;
 use dfs_worker::Event;
+use text_lines::cut;
 
 fn put_one(kind: &str, w: u32, out: &mut Vec<u8>) -> Result<(), NoMemory>
     ensures number { w < 2 ^ 32 }

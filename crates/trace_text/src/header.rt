@@ -1,5 +1,5 @@
 //! What a run is on, as the first lines of its trace say it.
-ghost use Rattle.std.specs.Prelude.{◌≡◌, ◌*◌, ◌+◌, ◌≤◌, ◌∷◌, [], ◌==◌, Err, IfErr, IfOk, MatchOption, None, Ok, Some, drop, length, position, slice_get, true};
+ghost use Rattle.std.specs.Prelude.{◌≡◌, ◌*◌, ◌+◌, ◌≤◌, ◌∷◌, [], Err, IfErr, IfOk, MatchOption, None, Ok, Some, drop, length, slice_get, true};
 ghost use Rattle.std.specs.Str.Lines.{lines};
 ghost use Rattle.trace_text.specs.Faults.{Gives};
 ghost use Rattle.trace_text.specs.Headers.{Follows, are_in_limits, header_of, header_with, name_on, numbers_in, part_on, read_at, shape_on, version_on};
@@ -10,7 +10,7 @@ use crate::fault::ReplayFault;
 use crate::said::{PartSaid, Sizes, name_on, part_on, shape_on, version_on};
 use adfs_base::{Name, NoMemory, PartWord};
 use std::alloc::Global;
-use text_lines::Lines;
+use text_lines::{Lines, feed_at};
 
 /// What a run is on: the first five lines of its trace.
 #[derive(Drop, Debug)]
@@ -31,13 +31,6 @@ pub struct Header {
     pub buffer: u32,
     /// How the vertices are dealt out to the machines.
     pub part: PartWord,
-}
-
-// The place of the first line feed.
-fn feed_at(text: &[u8]) -> Option<usize>
-    ensures { result ≡ position (λ b. b == 10) text.now }
-{
-    text.iter().position(|b| *b == b'\n')
 }
 
 fn rest_from(bytes: &[u8], from: usize) -> &[u8]

@@ -1,41 +1,11 @@
 //! The numbers of a line.
-ghost use Rattle.std.specs.Prelude.{◌≡◌, ◌<◌, ◌+◌, ◌^◌, ◌++◌, ◌∷◌, ℕ, IfSome, MatchOption, None, OnOk, drop, false, length, position, true};
-ghost use Rattle.std.specs.Char.{is_ascii_digit};
+ghost use Rattle.std.specs.Prelude.{◌≡◌, ◌++◌, ◌∷◌, OnOk};
 ghost use Rattle.std.specs.Fmt.{decimal};
-ghost use Rattle.std.specs.List.{after_first, before_first, list_all};
-ghost use Rattle.trace_text.specs.Numbers.{has_space, is_plain, is_space, number_of, pair_of, triple_of};
+ghost use Rattle.trace_text.specs.Numbers.{is_plain, number_of, pair_of, triple_of};
 
 use adfs_base::NoMemory;
 use std::str;
-
-fn space_at(text: &[u8]) -> Option<usize>
-    ensures { result ≡ position is_space text.now }
-{
-    text.iter().position(|b| *b == b' ')
-}
-
-fn after(text: &[u8], place: usize) -> &[u8]
-    requires { place < length text.now }
-    ensures { result.now ≡ drop (place + 1) text.now }
-{
-    &text[place + 1..]
-}
-
-/// What stands before the first space and after it, where there is one.
-pub(crate) fn cut(text: &[u8]) -> Option<(&[u8], &[u8])>
-    ensures { MatchOption result (has_space text.now ≡ false) (λ parts. (has_space text.now ≡ true) × ((parts.0.now ≡ before_first is_space text.now) × (parts.1.now ≡ after_first is_space text.now))) }
-{
-    match space_at(text) {
-        Some(place) => Some((&text[..place], after(text, place))),
-        None => None,
-    }
-}
-
-fn all_digits(text: &[u8]) -> bool
-    ensures { result ≡ list_all is_ascii_digit text.now }
-{
-    text.iter().all(|b| b.is_ascii_digit())
-}
+use text_lines::{all_digits, cut};
 
 // Whether the text is decimal digits without a leading zero.
 fn is_plain(text: &[u8]) -> bool

@@ -8,8 +8,9 @@ ghost use Rattle.adfs_base.specs.declared.part_word.PartWord.TheVariants as part
 ghost use Rattle.trace_text.specs.Said.{part_seen};
 ghost use Rattle.trace_text.specs.Headers.{version_on};
 
-use crate::number::{cut, number, triple};
+use crate::number::{number, triple};
 use std::str;
+use text_lines::cut;
 
 /// The numbers of a shape but that of its stages.
 #[derive(Clone, Copy)]

@@ -1,6 +1,6 @@
 -- The places of texts among the keys of a set that holds them.
 use Rattle.std.proofs.Common.{◌≡◌, ◌∙◌, sym, ap, refl, arith, ◌<◌, ◌≤◌, ◌+◌, ℕ, Bool, true, false, cond, not, ◌||◌, List, [], ◌∷◌, ◌++◌, length, length-append, map, Some, None, Result, Ok, Err, IfOk, OnOk, OnErr, take, position, nat_lt}
-use Rattle.adfs_base.specs.declared.name.NoMemory.{NoMemory}
+use Rattle.adfs_base.specs.declared.no_memory.NoMemory.{NoMemory}
 use Rattle.std.proofs.lemmas.Bool.Decides.{nat_tests}
 use Rattle.std.proofs.lemmas.Cmp.{nat_list_eq_equiv}
 use Rattle.std.proofs.lemmas.List.{length-map, map-append, take-append-le, take_all}

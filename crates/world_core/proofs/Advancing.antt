@@ -2,7 +2,7 @@
 use Rattle.std.proofs.Common.{◌≡◌, ℕ, List, [], ◌∷◌, get_or, Some, None, Result, Ok, Err, refl, sym, ap, subst, ◌∙◌, arith, zero, suc}
 use Rattle.std.specs.Prelude.{slice_get, slice_set, IfOk, OnErr}
 use Rattle.std.proofs.lemmas.List.{set-set, set-get_or}
-use Rattle.adfs_base.specs.declared.name.NoMemory as base
+use Rattle.adfs_base.specs.declared.no_memory.NoMemory as base
 use Rattle.match_context.specs.Tree.{Tree, IsTree}
 use Rattle.dfs_worker.specs.declared.event.Event.TheVariants.{Advance}
 use Rattle.dfs_worker.specs.Guards.{own_guard}

@@ -3,7 +3,7 @@ use Rattle.std.proofs.Common.{◌≡◌, ℕ, ◌<◌, ◌≤◌, List, get_or, 
 use Rattle.std.specs.Prelude.{slice_get, slice_set, OnOk, OnErr}
 use Rattle.std.proofs.lemmas.List.{set-get_or}
 use Rattle.std.proofs.lemmas.Option.{get_or_from_slice_get}
-use Rattle.adfs_base.specs.declared.name.NoMemory as base
+use Rattle.adfs_base.specs.declared.no_memory.NoMemory as base
 use Rattle.match_context.specs.Tree.{Tree, IsTree}
 use Rattle.fabric.specs.Shared.{Shared}
 use Rattle.dfs_worker.specs.declared.event.Event.{Event}

@@ -1,6 +1,6 @@
 -- What a step answers, and what it leaves.
 use Rattle.std.specs.Prelude.{◌≡◌, ℕ, slice_get, Option, Some, None, Result, Ok, Err}
-use Rattle.adfs_base.specs.declared.name.NoMemory as base
+use Rattle.adfs_base.specs.declared.no_memory.NoMemory as base
 use Rattle.match_context.specs.Tree.{Tree}
 use Rattle.dfs_worker.specs.declared.event.Event.{Event}
 use Rattle.dfs_worker.specs.declared.event.Event.TheVariants.{Advance}

@@ -1,5 +1,5 @@
 use Rattle.std.proofs.Common.{◌≡◌, length}
-use Rattle.element_store.specs.Columns.{AreNear}
+use Rattle.element_store.specs.Slots.{AreNear}
 use Rattle.element_store.proofs.near.near_columns.Given as goal
 
 abbrev pub invariant-loop-property : goal.invariant-loop-property

@@ -12,12 +12,12 @@ returns-then-at-last-clause-passed c =
     λ i after below.
     by_halves c.args.ground.now.texts.now c.args.ground.now.query.now c.args.gains.now c.args.aim.edge c.args.end c.args.aim.end c.args.context.now.words c.args.aim.out c.args.ground.now.part.now
     c.args.aim.place c.args.entries.now no_link c.args.from c.ends-first.result.0 c.ends-first.result.1 c.first_leading-at.result c.requires.end c.requires.entries
-    (omega (arith, c.ends-first.ensures.order, c.ends-first.ensures.within)) c.ends-first.ensures.before c.ends-first.ensures.behind c.first_leading-at.ensures.passed i after (inl below)
+    (omega (arith, c.ends-first.ensures.order, c.ends-first.ensures.within)) c.ends-first.ensures.before c.ends-first.ensures.past c.first_leading-at.ensures.passed i after (inl below)
 
 pub returns-else-at-last-clause-passed : goal.returns-else-at-last-clause-passed
 returns-else-at-last-clause-passed c =
     λ i after below.
     by_halves c.args.ground.now.texts.now c.args.ground.now.query.now c.args.gains.now c.args.aim.edge c.args.end c.args.aim.end c.args.context.now.words c.args.aim.out c.args.ground.now.part.now
     c.args.aim.place c.args.entries.now no_link c.args.from c.ends-first.result.0 c.ends-first.result.1 c.first_leading-at.result c.requires.end c.requires.entries
-    (omega (arith, c.ends-first.ensures.order, c.ends-first.ensures.within)) c.ends-first.ensures.before c.ends-first.ensures.behind c.first_leading-at.ensures.passed i after
+    (omega (arith, c.ends-first.ensures.order, c.ends-first.ensures.within)) c.ends-first.ensures.before c.ends-first.ensures.past c.first_leading-at.ensures.passed i after
     (elim (cases_lt i c.ends-first.result.1) [ inl less ↦ inl (omega (arith, less, c.if-at-last.false, c.first_leading-at.ensures.within)) | inr more ↦ inr (more, below) ])

@@ -17,14 +17,6 @@ returns-then-not-ends_at c =
     sym (leads-of c.args.ground.now.texts.now c.args.ground.now.query.now c.args.gains.now c.args.aim.edge c.args.aim.end c.args.context.now.words entry c.args.entry false _ _
     (entry-is there c.args.entry c.requires.entry) (sym c.ends_at.ensures ∙ c.if-not-ends_at.true) refl refl)
 
-pub returns-then-not-is_labelled : goal.returns-then-not-is_labelled
-returns-then-not-is_labelled c =
-    let part = c.args.ground.now.part.now in
-    let there = entry_at c.args.aim.out part c.args.aim.place c.args.number in
-    let entry = entry_in c.args.aim.out part c.args.aim.place c.args.number in
-    sym (leads-of c.args.ground.now.texts.now c.args.ground.now.query.now c.args.gains.now c.args.aim.edge c.args.aim.end c.args.context.now.words entry c.args.entry true false _
-    (entry-is there c.args.entry c.requires.entry) (sym c.ends_at.ensures ∙ c.if-not-ends_at.false) (sym c.is_labelled.ensures ∙ c.if-not-is_labelled.true) refl)
-
 pub returns : goal.returns
 returns c =
     let texts = c.args.ground.now.texts.now in
@@ -33,7 +25,7 @@ returns c =
     let words = c.args.context.now.words in
     let there = entry_at c.args.aim.out part c.args.aim.place c.args.number in
     let entry = entry_in c.args.aim.out part c.args.aim.place c.args.number in
-    c.all_hold.ensures
+    c.all_hold_by.ensures
     ∙ ap (λ (e : Element). all_hold texts query (written query e (captures_of query c.args.aim.edge) words) c.args.gains.now.conjuncts) (edge-is there)
     ∙ sym (leads-of texts query c.args.gains.now c.args.aim.edge c.args.aim.end words entry c.args.entry true true _
-    (entry-is there c.args.entry c.requires.entry) (sym c.ends_at.ensures ∙ c.if-not-ends_at.false) (sym c.is_labelled.ensures ∙ c.if-not-is_labelled.false) refl)
+    (entry-is there c.args.entry c.requires.entry) (sym c.ends_at.ensures ∙ c.if-not-ends_at.false) c.requires.label refl)

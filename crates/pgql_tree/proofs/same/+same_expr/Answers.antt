@@ -75,7 +75,10 @@ pub same_expr-returns-in-Name : goal.same_expr-returns-in-Name
 same_expr-returns-in-Name t c = told_so c.args.a.now (e.Name 0 c.in-Name.name) c.args.b.now (bare-Name c.in-Name.name 0 ∙ sym (ap bare c.in-Name.is ∙ bare-Name c.in-Name.name c.in-Name.at)) c.is_name.ensures
 
 pub same_expr-returns-in-Property : goal.same_expr-returns-in-Property
-same_expr-returns-in-Property t c = told_so c.args.a.now (e.Property 0 c.in-Property.variable c.in-Property.property) c.args.b.now (bare-Property c.in-Property.variable c.in-Property.property 0 ∙ sym (ap bare c.in-Property.is ∙ bare-Property c.in-Property.variable c.in-Property.property c.in-Property.at)) c.is_property.ensures
+same_expr-returns-in-Property t c =
+    told_so c.args.a.now (e.Property 0 c.in-Property.variable c.in-Property.property) c.args.b.now
+    (bare-Property c.in-Property.variable c.in-Property.property 0 ∙ sym (ap bare c.in-Property.is ∙ bare-Property c.in-Property.variable c.in-Property.property c.in-Property.at))
+    c.is_property.ensures
 
 pub same_expr-returns-in-Id : goal.same_expr-returns-in-Id
 same_expr-returns-in-Id t c = told_so c.args.a.now (e.Id c.in-Id.variable 0) c.args.b.now (bare-Id c.in-Id.variable 0 ∙ sym (ap bare c.in-Id.is ∙ bare-Id c.in-Id.variable c.in-Id.at)) c.is_id.ensures
@@ -90,7 +93,13 @@ pub same_expr-returns-in-Neg : goal.same_expr-returns-in-Neg
 same_expr-returns-in-Neg t c = told_so c.args.a.now (e.Neg c.in-Neg.inside 0) c.args.b.now (bare-Neg c.in-Neg.inside 0 ∙ sym (ap bare c.in-Neg.is ∙ bare-Neg c.in-Neg.inside c.in-Neg.at)) (rw c.get-in-Neg.ensures at c.is_minus.ensures)
 
 pub same_expr-returns-in-IsNull : goal.same_expr-returns-in-IsNull
-same_expr-returns-in-IsNull t c = told_so c.args.a.now (e.IsNull c.in-IsNull.inside c.in-IsNull.negated 0) c.args.b.now (bare-IsNull c.in-IsNull.inside c.in-IsNull.negated 0 ∙ sym (ap bare c.in-IsNull.is ∙ bare-IsNull c.in-IsNull.inside c.in-IsNull.negated c.in-IsNull.at)) (rw c.get-in-IsNull.ensures at c.is_null_test.ensures)
+same_expr-returns-in-IsNull t c =
+    told_so c.args.a.now (e.IsNull c.in-IsNull.inside c.in-IsNull.negated 0) c.args.b.now
+    (bare-IsNull c.in-IsNull.inside c.in-IsNull.negated 0 ∙ sym (ap bare c.in-IsNull.is ∙ bare-IsNull c.in-IsNull.inside c.in-IsNull.negated c.in-IsNull.at))
+    (rw c.get-in-IsNull.ensures at c.is_null_test.ensures)
 
 pub same_expr-returns-in-Binary : goal.same_expr-returns-in-Binary
-same_expr-returns-in-Binary t c = told_so c.args.a.now (e.Binary c.in-Binary.op 0 c.in-Binary.left c.in-Binary.right) c.args.b.now (bare-Binary c.in-Binary.op c.in-Binary.left c.in-Binary.right 0 ∙ sym (ap bare c.in-Binary.is ∙ bare-Binary c.in-Binary.op c.in-Binary.left c.in-Binary.right c.in-Binary.at)) (rw (c.get-in-Binary.ensures, c.get-in-Binary-2.ensures) at c.is_binary.ensures)
+same_expr-returns-in-Binary t c =
+    told_so c.args.a.now (e.Binary c.in-Binary.op 0 c.in-Binary.left c.in-Binary.right) c.args.b.now
+    (bare-Binary c.in-Binary.op c.in-Binary.left c.in-Binary.right 0 ∙ sym (ap bare c.in-Binary.is ∙ bare-Binary c.in-Binary.op c.in-Binary.left c.in-Binary.right c.in-Binary.at))
+    (rw (c.get-in-Binary.ensures, c.get-in-Binary-2.ensures) at c.is_binary.ensures)

@@ -4,7 +4,7 @@ use Rattle.text_lines.proofs.Lines.next.Goals as goal
 
 pub returns-in-Some-clause-line : goal.returns-in-Some-clause-line
 returns-in-Some-clause-line c =
-    rw (← c.self.view_is, c.stripped.ensures, c.behind-self-inside.ensures) (lines_some c.self.inside.rest.now c.in-Some.n (sym c.in-Some.ensures))
+    rw (← c.self.view_is, c.stripped.ensures, c.after-self-inside.ensures) (lines_some c.self.inside.rest.now c.in-Some.n (sym c.in-Some.ensures))
 
 pub returns-in-None-clause-line : goal.returns-in-None-clause-line
 returns-in-None-clause-line c =
@@ -12,7 +12,7 @@ returns-in-None-clause-line c =
 
 pub returns-in-Some-clause-rest : goal.returns-in-Some-clause-rest
 returns-in-Some-clause-rest c =
-    rw (← c.self.view_is, c.behind-self-inside.ensures, lines_some c.self.inside.rest.now c.in-Some.n (sym c.in-Some.ensures)) refl
+    rw (← c.self.view_is, c.after-self-inside.ensures, lines_some c.self.inside.rest.now c.in-Some.n (sym c.in-Some.ensures)) refl
 
 pub returns-in-None-clause-rest : goal.returns-in-None-clause-rest
 returns-in-None-clause-rest c =

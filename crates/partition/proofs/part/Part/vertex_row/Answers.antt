@@ -1,10 +1,10 @@
-use Rattle.std.proofs.Common.{◌≡◌, ◌<◌, ◌∙◌, sym, ap, length, slice_get, Some}
+use Rattle.std.proofs.Common.{◌≡◌, ◌<◌, ◌∙◌, sym, ap, ℕ, List, length, slice_get, Some}
 use Rattle.std.proofs.lemmas.List.{get_or_read}
 use Rattle.std.proofs.lemmas.Option.{slice_get-get_or}
-use Rattle.element_store.specs.Columns.{value_of}
+use Rattle.element_store.specs.Columns.{Cell}
 use Rattle.partition.proofs.ReadFacts.{number_within, vertex_read, vertices_each}
-use Rattle.partition.proofs.part.Part.vertex_value.Goals as goal
-use Rattle.partition.proofs.part.Part.vertex_value.Goals.{After-index-number}
+use Rattle.partition.proofs.part.Part.vertex_row.Goals as goal
+use Rattle.partition.proofs.part.Part.vertex_row.Goals.{After-index-number}
 
 number : (c : After-index-number) → slice_get c.self.inside.own.numbers.items c.args.place ≡ Some c.index-number.result.now
 number c =
@@ -16,12 +16,12 @@ number c =
 within : (c : After-index-number) → c.index-number.result.now < length c.self.inside.shared.value.vertices
 within c = number_within c.self.inside.machines c.self.inside.shared.value c.self.inside.own c.self.invariant c.args.place c.index-number.result.now (number c)
 
-pub value-requires : goal.value-requires
-value-requires c = rw c.deref.ensures (within (goal.at.value-requires c).After-index-number)
+pub row-requires : goal.row-requires
+row-requires c = rw c.deref.ensures (within (goal.at.row-requires c).After-index-number)
 
 pub returns : goal.returns
 returns c =
     let at = (goal.at.returns c).After-index-number in
     rw (← c.self.view_is)
-    (vertex_read c.self.inside.machines c.self.inside.shared.value c.self.inside.own (λ v. value_of v.values c.args.property) c.args.place c.index-number.result.now c.value.result (number at) (within at)
-    (rw c.deref.ensures at c.value.ensures))
+    (vertex_read c.self.inside.machines c.self.inside.shared.value c.self.inside.own {V = ℕ × List (ℕ × Cell)} (λ v. (v.label, v.values)) c.args.place c.index-number.result.now c.row.result (number at) (within at)
+    (rw c.deref.ensures at c.row.ensures))

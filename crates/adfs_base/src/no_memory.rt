@@ -1,0 +1,18 @@
+//! What is answered where memory runs out.
+use std::alloc::{AllocError, AllocFailed};
+
+/// Memory ran out. It is an answer of its own everywhere, and stands for nothing else.
+#[derive(Clone, Copy, Debug, PartialEq, Eq)]
+pub struct NoMemory;
+
+impl From<AllocError> for NoMemory {
+    fn from(_: AllocError) -> Self {
+        NoMemory
+    }
+}
+
+impl<T: Drop> From<AllocFailed<T>> for NoMemory {
+    fn from(_: AllocFailed<T>) -> Self {
+        NoMemory
+    }
+}
