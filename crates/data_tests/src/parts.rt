@@ -2,7 +2,7 @@
 ghost use Rattle.std.specs.Prelude.{ℕ, ◌<◌, ◌≤◌, length};
 ghost use Rattle.partition.specs.Owners.{IsOwner};
 
-use adfs_base::{MemStore, Name, NoMemory, Value};
+use adfs_base::{FILE_BYTES, MemStore, Name, NoMemory, Value};
 use graph_loading::load_graph;
 use graph_tables::Graph;
 use partition::{Owner, Part, read_owners, split};
@@ -111,7 +111,7 @@ fn told(alloc: Global, owner: &Owner, machines: u32) -> Result<Vec<i64>, NoMemor
 // What the parts by an owner file say.
 fn told_as_listed(alloc: Global, text: &str, machines: u32) -> Result<Vec<i64>, NoMemory>
     requires some { 0 < machines }
-    requires short { length text.now ≤ 268435456 }
+    requires short { length text.now ≤ FILE_BYTES }
 {
     let mut told = Vec::new(alloc);
     if let Some(graph) = graph(alloc)? {

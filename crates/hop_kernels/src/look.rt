@@ -10,7 +10,7 @@ ghost use Rattle.hop_kernels.specs.Looks.{IsInSight};
 use crate::ground::Ground;
 use crate::spot::{Spot, row_of};
 use crate::words::{kind_of, word_of};
-use adfs_base::{Kind, Value};
+use adfs_base::{CONTEXT_WORDS, Kind, Value};
 use element_store::{value_from, word_from};
 use match_context::Context;
 use stage_plan::Gains;
@@ -50,9 +50,9 @@ fn is_told(texts: &Texts, kind: Kind, word: Option<u64>) -> bool
     }
 }
 
-/// The first word of a context. Whoever reads it knows that the context has forty.
+/// The first word of a context. Whoever reads it knows how many the context has.
 pub(crate) fn first_word(context: &Context) -> u64
-    ensures { length context.now.words ≡ 40 }
+    ensures { length context.now.words ≡ CONTEXT_WORDS }
 {
     context.words[0]
 }

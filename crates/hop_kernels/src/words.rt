@@ -36,6 +36,16 @@ pub(crate) fn word_of(part: &Part, spot: Spot, row: &Row<'_>, capture: &Capture)
     }
 }
 
+// The word of what the capture of a place captures of an element, whose row that is.
+fn word_at(part: &Part, query: &Query, spot: Spot, row: &Row<'_>, place: u32) -> Option<u64>
+    requires there { place < length query.now.captures }
+    requires element { IsSome (element_at part.now spot) }
+    requires row { row.now.1 ≡ (element_in part.now spot).values }
+    ensures { result ≡ told.word_at query.now (element_in part.now spot) place }
+{
+    word_of(part, spot, row, &query.captures.as_slice()[place as usize])
+}
+
 // Writes a captured value, or its null bit.
 fn put_capture(
     words: &mut [u64; CONTEXT_WORDS as usize],
@@ -75,7 +85,7 @@ pub(crate) fn write(
     let variables = query.variables.as_slice().len();
     let row = row_of(part, spot);
     for place in places {
-        let word = word_of(part, spot, &row, &query.captures.as_slice()[*place as usize]);
+        let word = word_at(part, query, spot, &row, *place);
         put_capture(words, variables, *place as usize, word);
     }
 }
