@@ -79,6 +79,12 @@ fn leaves(alloc: Global, text: &str, put: u64, held: &str) -> Result<bool, NoMem
     )
 }
 
+// Whether a run comes to its end without a put of this number, which would fail, and leaves these bytes.
+fn ends_before(alloc: Global, text: &str, put: u64, held: &str) -> Result<bool, NoMemory> {
+    let sink = MemSink::new(alloc, vec![in alloc; put]?, 4, ROOM)?;
+    comes_to(alloc, text, store(alloc, 0)?, sink, held, "")
+}
+
 #[test]
 fn failing_load(rt: HostRuntime) -> Result<(), Fail> {
     let listed = "run graph.txt keys.txt --part listed:own.txt --machines 2";
@@ -107,6 +113,25 @@ fn failing_put(rt: HostRuntime) -> Result<(), Fail> {
         ("help", 1, "run "),
     ] {
         assert!(rt; leaves(rt.alloc(), text, put, held)?, "at {held:?}");
+    }
+    Ok(())
+}
+
+#[test]
+fn one_put_for_each_query(rt: HostRuntime) -> Result<(), Fail> {
+    for (text, put, held) in [
+        (
+            "run graph.txt keys.txt",
+            2,
+            "query 1 rows 5\nid(a),id(b)\n1,2\n1,2\n2,3\n3,1\n4,4\n",
+        ),
+        (
+            "run graph.txt twice.txt",
+            3,
+            "query 1 rows 1\na.name\nAnn\nquery 2 rows 2\na.name\nAnn\nBob\n",
+        ),
+    ] {
+        assert!(rt; ends_before(rt.alloc(), text, put, held)?, "at {held:?}");
     }
     Ok(())
 }

@@ -8,12 +8,13 @@
 //! A contract sees `Elements` as `Filled`: the list of the elements, each with its key, its label and the
 //! values of its columns, and beside it what the table that is being filled says of its rows.
 //!
-//! `Elements::into_list` gives the index of keys back and keeps the rest, an `ElementList`: elements that are read by
-//! their numbers alone. A `Row` is where an element's label and values stand: who reads several of them finds it once.
+//! `Elements::into_list` drops the index of keys and keeps the rest, an `ElementList`: elements that are read by their
+//! numbers alone. A `Row` is where an element's label and values stand: who reads several of them finds it once.
 //!
 //! The invariants are these. Each table has a row of cells for each of its elements. The tables stand in
 //! the order of their elements, and each knows the number of its first one. The index of keys has the key
-//! of each element at the element's number.
+//! of each element at the element's number. Each table tells by a property's number where its column stands, if that
+//! number is small (`near`).
 #![tactic(auto)]
 
 mod bits;

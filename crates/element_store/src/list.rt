@@ -2,14 +2,13 @@
 ghost use Rattle.std.specs.Prelude.{◌≡◌, ◌<◌, ℕ, List, Some, length, slice_get};
 ghost use Rattle.std.specs.List.{flat_map};
 ghost use Rattle.std.specs.Option.{option_map};
-ghost use Rattle.element_store.specs.Columns.{Cell, value_of};
+ghost use Rattle.element_store.specs.Columns.{Cell};
 ghost use Rattle.element_store.specs.Elements.{HaveRows, joined};
 ghost use Rattle.element_store.specs.Tables.{labelled};
 
 use crate::elements::row_of;
 use crate::row::Row;
 use crate::table::Table;
-use adfs_base::Value;
 use std::marker::Model;
 
 /// The vertices of a graph, or what its edges have besides their ends, by their numbers. A contract sees the list of
@@ -71,13 +70,5 @@ impl ElementList {
         ensures { option_map (λ e. e.label) (slice_get self.now number) ≡ Some result }
     {
         self.row(number).label()
-    }
-
-    /// The value that an element has of a property; null where its table has no such column.
-    pub fn value(&self, number: u32, property: u32) -> Value
-        requires { number < length self.now }
-        ensures { option_map (λ e. value_of e.values property) (slice_get self.now number) ≡ Some result }
-    {
-        self.row(number).value(property)
     }
 }

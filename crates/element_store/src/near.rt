@@ -8,10 +8,11 @@ use crate::columns::Columns;
 use adfs_base::Kind;
 use std::alloc::{AllocError, Global};
 
-/// How many properties are near.
+/// Properties with numbers below this are near.
 const MOST_NEAR: u32 = 1024;
 
-/// What the column of a property holds, where its table has one.
+/// What the column of a property holds, where its table has one. It is compared at once, where an `Option` of a kind
+/// would be in two steps.
 #[derive(Clone, Copy, PartialEq, Eq)]
 pub(crate) enum Held {
     Nothing,
@@ -74,7 +75,7 @@ fn sought(columns: &Columns, property: u32) -> Slot
 
 // One more than the greatest near property that has a column.
 fn reach(columns: &Columns) -> u32
-    ensures { result ≤ 1024 }
+    ensures { result ≤ MOST_NEAR }
 {
     let mut reach = 0;
     for place in 0..columns.len() {

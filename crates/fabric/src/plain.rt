@@ -123,6 +123,7 @@ impl PlainFabric {
     {
         let from = self.machine(w);
         let at = self.place(from, stage, to);
+        // That this word is within its range keeps the sum below in range.
         let _used = self.used[at];
         self.flying[at] += 1;
     }
@@ -254,6 +255,7 @@ impl PlainFabric {
         ensures change { self.new ≡ after_close self.old }
     {
         let _ = w;
+        // What `stages` promises keeps the sum below in range.
         let _stages = self.shape.stages();
         self.closed += 1;
         Closing::Closed

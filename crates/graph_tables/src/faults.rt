@@ -55,8 +55,8 @@ pub enum TableKind {
 ///
 /// File 0 is the manifest, and the tables are counted from 1 in its order. The row is the number of a line
 /// of the manifest or of a record of a table, from 1, the header included. Columns are counted from 1. Row
-/// and column are 0 where the fault is of the whole file or record, and so is the file for `NoMemory` and
-/// too many tables.
+/// and column are 0 where the fault is of a whole file, the column alone where it is of a whole line or record, and
+/// the file too for `NoMemory` and too many tables.
 #[derive(Clone, Copy, Debug, PartialEq, Eq)]
 pub struct TableFault {
     pub file: u32,

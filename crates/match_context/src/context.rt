@@ -16,7 +16,8 @@ pub struct Context {
 }
 
 impl Context {
-    /// The number of the element for which a variable stands.
+    /// The number of the element for which a variable stands: the lower half of its word. Words of matches are
+    /// numbers of elements and have no other half; whoever has words from elsewhere looks at the whole word first.
     pub fn number(&self, variable: usize) -> u32
         requires { 1 + variable < CONTEXT_WORDS }
         ensures { result ≡ number_in self.now.words variable }

@@ -12,9 +12,9 @@
 //! The edges are dealt out once for all machines: one pass in each direction leaves at each vertex its first edge
 //! and at each edge the next of the same vertex (`Chains`), and the lists are filled along these. A list keeps 16
 //! bytes for each of its edges, side by side (`Link`). Who has which vertex, and keys, labels and values of all
-//! elements, are held once, for all parts (`Shared`), and the graph's memory for anything else is given back before
-//! the lists are made. A part's invariant (`IsPart`) says that its spans lie in its array of links, and that these
-//! and its vertices lead to elements.
+//! elements, are held once, for all parts (`Shared`). The index of keys is given back before the lists are made, the
+//! chains and the edges' ends right after them. A part's invariant (`IsPart`) says that its spans lie in its array of
+//! links, and that these and its vertices lead to elements.
 //!
 //! `read_owners` reads an owner from a file, and says exactly what the file says or its first fault
 //! (`owners_of`, specs/OwnerFile.antt). Only `read_owners` and `split` take memory.

@@ -62,6 +62,7 @@ fn number(text: &[u8]) -> u32
             Ok(number) => number,
             Err(_) => u32::MAX,
         },
+        // It doesn't come: digits are UTF-8.
         Err(_) => 0,
     }
 }

@@ -1,7 +1,7 @@
 use Rattle.std.proofs.Common.{◌∙◌, sym, refl}
 use Rattle.csv_records.proofs.PlaceFacts.{on_err}
 use Rattle.csv_records.proofs.TableFacts.{no_bytes, none_read, record_read}
-use Rattle.csv_records.proofs.Records.next.Goals as goal
+use Rattle.csv_records.proofs.records.Records.next.Goals as goal
 
 pub returns-then-is_empty-clause-record_read : goal.returns-then-is_empty-clause-record_read
 returns-then-is_empty-clause-record_read c =

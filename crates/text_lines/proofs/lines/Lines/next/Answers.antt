@@ -1,6 +1,6 @@
 use Rattle.std.proofs.Common.{refl, sym}
 use Rattle.text_lines.proofs.LineFacts.{lines_none, lines_some}
-use Rattle.text_lines.proofs.Lines.next.Goals as goal
+use Rattle.text_lines.proofs.lines.Lines.next.Goals as goal
 
 pub returns-in-Some-clause-line : goal.returns-in-Some-clause-line
 returns-in-Some-clause-line c =
