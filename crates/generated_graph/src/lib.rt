@@ -2,7 +2,7 @@
 //!
 //! `generated_graph` makes the tables of a seed (`graph_gen`) and loads them as any tables are loaded. What it gives is
 //! `graph_due` (specs/Loading.antt), the graph that those tables say. Every seed has one: the tables always load
-//! (`laws::tables_load`), so that nothing but memory can be wanting.
+//! (`laws::tables_load`), so that only memory can run out.
 #![tactic(auto)]
 
 pub mod laws;
