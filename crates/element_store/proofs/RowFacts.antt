@@ -76,6 +76,12 @@ cell_within w r zero place a b = absurd (omega arith)
 cell_within w zero (suc n) place a b = omega (arith, suc-mul n w)
 cell_within w (suc r) (suc n) place a b = omega (arith, suc-mul n w, suc-mul r w, cell_within w r n place (omega arith) b)
 
+-- all of a row is within the cells
+pub row_inside : (w r n : ℕ) → r < n → r * w + w ≤ n * w
+row_inside w r zero a = absurd (omega arith)
+row_inside w zero (suc n) a = omega (arith, suc-mul n w)
+row_inside w (suc r) (suc n) a = omega (arith, suc-mul n w, suc-mul r w, row_inside w r n (omega arith))
+
 -- a row begins within the cells, or at their end
 pub row_within : (w r n : ℕ) → r < n → r * w ≤ n * w
 row_within w r zero a = absurd (omega arith)

@@ -5,7 +5,7 @@ use Rattle.adfs_base.specs.declared.value.Kind.{Kind}
 use Rattle.adfs_base.specs.declared.value.Kind.TheVariants as kinds
 use Rattle.adfs_base.specs.declared.value.Value.TheVariants as value
 use Rattle.element_store.specs.Columns.{Column, named, slot_of, value_of}
-use Rattle.element_store.specs.Tables.{RowsAreWords, rows_of, values_of}
+use Rattle.element_store.specs.Tables.{AreWordsOf, RowsAreWords, rows_of, values_of}
 use Rattle.element_store.specs.Words.{value_from, word_from}
 use Rattle.element_store.proofs.RowFacts.{cell_there, cell_within, length-rows_of, rows_get, rows_words_get}
 use Rattle.element_store.specs.Slots.{column_at, held_of, kind_held, told_by}
@@ -64,3 +64,13 @@ module _ (columns : List Column) (n : ℕ) (cells : List (Option ℕ)) (row star
         by held.Text found differ = of_another kinds.Text found differ
         by held.Bool found differ = of_another kinds.Bool found differ
         by held.Date found differ = of_another kinds.Date found differ
+
+  -- words of the row, each of which is there unless it is the one of missing words
+  pub words_read : RowsAreWords columns n cells → (words : List ℕ) → length words ≡ length columns
+      → ((i : ℕ) → i < length columns → slice_index_or words i 0 ≢ 18446744071562067968 → slice_get cells (start + i) ≡ Some (Some (slice_index_or words i 0)))
+      → (first label : ℕ) → AreWordsOf (record { first = first; label = label; columns = columns; rows = rows_of columns n cells }) row words
+  words_read are words size is first label = record {
+    a_word_each = size;
+    words_are = λ property place kind found other.
+        word_read property place kind found (Some (slice_index_or words place 0)) (is place (column_there property place kind found) other) are;
+  }

@@ -28,8 +28,9 @@ column_at place (Some kind) = Some (place, kind)
 abbrev pub told_by : Slot → Option (ℕ × Kind)
 told_by slot = column_at slot.place (kind_held slot.held)
 
+-- what stands for a slot beyond the last
 abbrev pub no_slot : Slot
-no_slot = record { held = held.Nothing; place = 0 }
+no_slot = record { held = held.Int; place = 0 }
 
 -- The columns of properties stand at the properties' numbers.
 abbrev pub AreNear : List Slot → List Column → Type 0

@@ -1,8 +1,9 @@
 -- The rows of a table, from its cells.
-use Rattle.std.specs.Prelude.{◌≡◌, ℕ, zero, suc, ◌+◌, ◌*◌, ◌<◌, List, [], ◌∷◌, length, take, drop, map, Option, slice_index_or}
+use Rattle.std.specs.Prelude.{◌≡◌, ◌≢◌, ℕ, zero, suc, ◌+◌, ◌*◌, ◌<◌, List, [], ◌∷◌, length, take, drop, map, Option, Some, slice_index_or}
 use Rattle.adfs_base.specs.declared.value.Value.{Value}
+use Rattle.adfs_base.specs.declared.value.Kind.{Kind}
 use Rattle.element_store.specs.declared.near.Slot.{Slot}
-use Rattle.element_store.specs.Columns.{Cell, Column, named}
+use Rattle.element_store.specs.Columns.{Cell, Column, named, slot_of, value_of}
 use Rattle.element_store.specs.Slots.{AreNear}
 use Rattle.element_store.specs.Words.{value_from, word_from}
 
@@ -49,6 +50,12 @@ labelled table = map (λ row. (table.label, named table.columns row)) table.rows
 -- what an element of a table has besides its key
 abbrev pub row_at : Rows → ℕ → ℕ × List (ℕ × Cell)
 row_at table row = (table.label, named table.columns (slice_index_or table.rows row []))
+
+-- Words of a row, one for each column: each that isn't the one of missing words is that of the value under its column's property.
+pub record AreWordsOf (table : Rows) (row : ℕ) (words : List ℕ) : Type 0 where
+  pub a_word_each : length words ≡ length table.columns
+  pub words_are : (property place : ℕ) (kind : Kind) → slot_of table.columns property ≡ Some (place, kind) → slice_index_or words place 0 ≢ 18446744071562067968
+      → word_from kind (value_of (row_at table row).1 property) ≡ Some (slice_index_or words place 0)
 
 -- A row is there, and its cells begin at this place.
 pub record IsRow (table : Rows) (row start : ℕ) : Type 0 where

@@ -2,14 +2,14 @@
 //!
 //! A bit beside each word says whether it is there. It is looked at only where the word is the one that stands for a
 //! missing one, so nearly each word is read by one load.
-ghost use Rattle.std.specs.Prelude.{◌≡◌, ◌<◌, ◌≤◌, ◌^◌, ◌++◌, ◌∷◌, [], OnOk, OnErr, Some, length, slice_get, take};
+ghost use Rattle.std.specs.Prelude.{◌≡◌, ◌≢◌, ℕ, ◌<◌, ◌≤◌, ◌+◌, ◌^◌, ◌++◌, ◌∷◌, [], OnOk, OnErr, Some, length, slice_get, slice_index_or, take, drop};
 
 use crate::bits::Bits;
 use std::alloc::{AllocError, Global};
 use std::marker::Model;
 
 /// The word that stands where one is missing. A word that is there may be this one too.
-const MISSING: u64 = 0xFFFF_FFFF_8000_0000;
+pub(crate) const MISSING: u64 = 0xFFFF_FFFF_8000_0000;
 
 /// A list of words, each of which may be missing, seen as a list of options.
 #[derive(Drop)]
@@ -27,6 +27,14 @@ impl Model for Cells {
     ghost view = { λ a. words_where a.present a.words.items };
 
     ghost invariant = { λ a. AreCells a.present a.words.items };
+}
+
+// So many items from a place on.
+fn part_of(items: &[u64], start: usize, count: usize) -> &[u64]
+    requires { start + count ≤ length items.now }
+    ensures { result.now ≡ take count (drop start items.now) }
+{
+    &items[start..start + count]
 }
 
 impl Cells {
@@ -62,6 +70,15 @@ impl Cells {
         } else {
             None
         }
+    }
+
+    /// So many words from a place on. Each that isn't the one of missing words is there.
+    pub(crate) fn words(&self, start: usize, count: usize) -> &[u64]
+        requires { start + count ≤ length self.now }
+        ensures length { length result.now ≡ count }
+        ensures there { (i : ℕ) → i < count → slice_index_or result.now i 0 ≢ MISSING → slice_get self.now (start + i) ≡ Some (Some (slice_index_or result.now i 0)) }
+    {
+        part_of(&self.words, start, count)
     }
 
     /// Adds a word at the end. After running out of memory nothing has changed.

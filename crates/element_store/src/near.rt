@@ -15,11 +15,11 @@ const MOST_NEAR: u32 = 1024;
 /// would be in two steps.
 #[derive(Clone, Copy, PartialEq, Eq)]
 pub(crate) enum Held {
-    Nothing,
     Int,
     Text,
     Bool,
     Date,
+    Nothing,
 }
 
 /// What a table has of a property, and where.

@@ -4,6 +4,8 @@ ghost use Rattle.element_store.specs.Columns.{value_of};
 ghost use Rattle.element_store.specs.Tables.{row_at};
 ghost use Rattle.element_store.specs.Words as words;
 
+use crate::cells::MISSING;
+use crate::near::{Slot, held_of};
 use crate::table::Table;
 use adfs_base::{Kind, Value};
 use std::marker::Model;
@@ -15,18 +17,21 @@ pub struct Row<'a> {
     table: &'a Table,
     row: u32,
     start: usize,
+    near: &'a [Slot],
+    words: &'a [u64],
 }
 
 impl<'a> Model for Row<'a> {
     ghost use Rattle.std.specs.Prelude.{ℕ, List};
     ghost use Rattle.element_store.specs.Columns.{Cell};
-    ghost use Rattle.element_store.specs.Tables.{IsRow, row_at};
+    ghost use Rattle.element_store.specs.Rows.{IsRowOf};
+    ghost use Rattle.element_store.specs.Tables.{row_at};
 
     ghost Value = { ℕ × List (ℕ × Cell) };
 
     ghost view = { λ a. row_at a.table.now a.row };
 
-    ghost invariant = { λ a. IsRow a.table.now a.row a.start };
+    ghost invariant = { λ a. IsRowOf a.table.now a.row a.start a.near.now a.words.now };
 }
 
 impl<'a> Row<'a> {
@@ -36,7 +41,13 @@ impl<'a> Row<'a> {
         ensures { result ≡ row_at table.now row }
     {
         let start = table.start(row);
-        Row { table, row, start }
+        Row {
+            table,
+            row,
+            start,
+            near: table.near(),
+            words: table.words(row, start),
+        }
     }
 
     /// The number of its label.
@@ -57,6 +68,15 @@ impl<'a> Row<'a> {
     pub fn word(&self, property: u32, kind: Kind) -> Option<u64>
         ensures { result ≡ words.word_from kind (value_of self.now.1 property) }
     {
+        if (property as usize) < self.near.len() {
+            let slot = self.near[property as usize];
+            if slot.held == held_of(kind) {
+                let word = self.words[slot.place];
+                if word != MISSING {
+                    return Some(word);
+                }
+            }
+        }
         self.table.word(self.row, self.start, property, kind)
     }
 }

@@ -1,7 +1,8 @@
 //! One table of elements.
 ghost use Rattle.std.specs.Prelude.{◌≡◌, ◌<◌, ◌+◌, ◌-◌, ◌^◌, ◌++◌, ◌∷◌, [], IfOk, OnOk, OnErr, length};
 ghost use Rattle.element_store.specs.Columns.{HaveKinds, value_of};
-ghost use Rattle.element_store.specs.Tables.{AddsRow, IsRow, row_at};
+ghost use Rattle.element_store.specs.Slots.{AreNear};
+ghost use Rattle.element_store.specs.Tables.{AddsRow, AreWordsOf, IsRow, row_at};
 ghost use Rattle.element_store.specs.Words as words;
 
 use crate::cells::Cells;
@@ -96,6 +97,21 @@ impl Table {
         // What `len` promises keeps the product in range.
         let _cells = self.cells.len();
         row as usize * self.columns.len()
+    }
+
+    /// What it has of properties with small numbers, by these numbers.
+    pub(crate) fn near(&self) -> &[Slot]
+        ensures { AreNear result.now self.now.columns }
+    {
+        &self.near
+    }
+
+    /// The words of a row whose cells begin at a place. One that may stand for a missing word tells nothing.
+    pub(crate) fn words(&self, row: u32, start: usize) -> &[u64]
+        requires { IsRow self.now row start }
+        ensures { AreWordsOf self.now row result.now }
+    {
+        self.cells.words(start, self.columns.len())
     }
 
     /// The value that a row whose cells begin at a place has of a property; null where the table has no such column.

@@ -1,14 +1,15 @@
 -- How often vertices and edges stand in parts.
-use Rattle.std.proofs.Common.{◌≡◌, ◌∙◌, sym, ap, refl, arith, ℕ, zero, suc, ◌+◌, ◌<◌, ◌==◌, Bool, true, false, cond, List, [], ◌∷◌, length, map, slice_get, slice_index, count_by, Some}
+use Rattle.std.proofs.Common.{◌≡◌, ◌∙◌, sym, ap, refl, arith, ℕ, zero, suc, ◌+◌, ◌<◌, ◌==◌, Bool, true, false, cond, List, [], ◌∷◌, length, map, slice_get, slice_index, count_by, Some, ◌⊎◌, inl, inr, option_and_then}
+use Rattle.std.proofs.lemmas.Bool.{eqb-true}
 use Rattle.std.proofs.lemmas.Bool.Decides.{nat_tests}
 use Rattle.std.proofs.lemmas.Option.{slice_get-map}
 use Rattle.std.proofs.lemmas.List.Recursion.{is_count_by}
 use Rattle.std.specs.List.{filter, range_with_len}
 use Rattle.graph_tables.specs.Graph.{Edge, PropertyGraph, Vertex}
 use Rattle.sorted_lists.specs.Sorted.{before_by, in_order, placed}
-use Rattle.partition.specs.Laws.{ListsOnce, PartsAreTheGraph, once_if}
+use Rattle.partition.specs.Laws.{ListsOnce, PartsAreTheGraph, TellsEdge, once_if}
 use Rattle.partition.specs.Owners.{machine_of}
-use Rattle.partition.specs.Parts.{Entry, entries_of, entry_of, entry_order, lists_of, near_end, numbered, owners_in, part_with, vertices_of}
+use Rattle.partition.specs.Parts.{Entry, entries_of, entry_at, entry_of, entry_order, lists_of, near_end, numbered, owners_in, part_with, vertices_of}
 
 -- ---- counts
 
@@ -104,6 +105,41 @@ item_there {X} p all (x ∷ xs) k place y from at = by (p (k, x)) place at (λ q
     by true (suc q) e more = more q e
     by false q e more = more q e
 
+-- what stands at a place of a filtered list passes
+passes_there : {X : Type 0} (p : X → Bool) (xs : List X) (place : ℕ) (y : X) → slice_get (filter p xs) place ≡ Some y → p y ≡ true
+passes_there p [] place y at = cc at
+passes_there {X} p (x ∷ xs) place y at = by (p x) refl place at (λ q. passes_there p xs q y)
+  where
+    by : (b : Bool) → p x ≡ b → (q : ℕ) → slice_get (cond b (x ∷ filter p xs) (filter p xs)) q ≡ Some y → ((r : ℕ) → slice_get (filter p xs) r ≡ Some y → p y ≡ true) → p y ≡ true
+    by true is zero e more = let same : x ≡ y = cc e in rw same at is
+    by true is (suc q) e more = more q e
+    by false is q e more = more q e
+
+-- what stands at a place of a list in order stands in the list
+placed_at : {X : Type 0} (before : X → X → Bool) (x : X) (xs : List X) (place : ℕ) (y : X) → slice_get (placed before x xs) place ≡ Some y → (x ≡ y) ⊎ ((i : ℕ) × (slice_get xs i ≡ Some y))
+placed_at before x [] zero y at = inl (cc at)
+placed_at before x [] (suc place) y at = cc at
+placed_at {X} before x (z ∷ zs) place y at = by (before z x) place at (λ q. placed_at before x zs q y)
+  where
+    by : (b : Bool) (q : ℕ) → slice_get (cond b (z ∷ placed before x zs) (x ∷ z ∷ zs)) q ≡ Some y
+        → ((r : ℕ) → slice_get (placed before x zs) r ≡ Some y → (x ≡ y) ⊎ ((i : ℕ) × (slice_get zs i ≡ Some y))) → (x ≡ y) ⊎ ((i : ℕ) × (slice_get (z ∷ zs) i ≡ Some y))
+    by true zero e more = inr (0, e)
+    by true (suc q) e more = later (more q e)
+      where
+        later : (x ≡ y) ⊎ ((i : ℕ) × (slice_get zs i ≡ Some y)) → (x ≡ y) ⊎ ((i : ℕ) × (slice_get (z ∷ zs) i ≡ Some y))
+        later (inl same) = inl same
+        later (inr found) = inr (suc found.0, found.1)
+    by false zero e more = inl (cc e)
+    by false (suc q) e more = inr (q, e)
+
+ordered_at : {X : Type 0} (before : X → X → Bool) (xs : List X) (place : ℕ) (y : X) → slice_get (in_order before xs) place ≡ Some y → (i : ℕ) × (slice_get xs i ≡ Some y)
+ordered_at before [] place y at = cc at
+ordered_at {X} before (x ∷ xs) place y at = by (placed_at before x (in_order before xs) place y at) (λ q. ordered_at before xs q y)
+  where
+    by : (x ≡ y) ⊎ ((i : ℕ) × (slice_get (in_order before xs) i ≡ Some y)) → ((r : ℕ) → slice_get (in_order before xs) r ≡ Some y → (i : ℕ) × (slice_get xs i ≡ Some y)) → (i : ℕ) × (slice_get (x ∷ xs) i ≡ Some y)
+    by (inl same) more = (0, ap Some same)
+    by (inr found) more = let it = more found.0 found.1 in (suc it.0, it.1)
+
 -- what stands at a place of a list that was mapped
 mapped_at : {X Y : Type 0} (f : X → Y) (xs : List X) (place : ℕ) (y : Y) → slice_get (map f xs) place ≡ Some y → (x : X) × (slice_get xs place ≡ Some x) × (f x ≡ y)
 mapped_at f [] place y at = cc at
@@ -169,6 +205,18 @@ module _ (owners : List ℕ) (machines : ℕ) (g : PropertyGraph) (machine : ℕ
         once = sym (counted (λ entry. entry.edge == n) (entries_of owners out g.edges v)) ∙ count-in_order (λ entry. entry.edge == n) (before_by entry_order) (map (entry_of owners out) passing) ∙ count-map (λ entry. entry.edge == n) (entry_of owners out) passing ∙ once;
       }
 
+  entry_right : (out : Bool) (place v n : ℕ) (entry : Entry) → slice_get (part_with owners machines g machine).numbers place ≡ Some v → entry_at out (part_with owners machines g machine) place n ≡ Some entry
+      → TellsEdge g owners out v entry
+  entry_right out place v n entry at is =
+      let passing = filter (λ (f : ℕ × Edge). near_end out f.1 == v) (numbered 0 g.edges) in
+      let listed : slice_get (entries_of owners out g.edges v) n ≡ Some entry = ap (λ o. option_and_then (λ (list : List Entry). slice_get list n) o) (sym (list_there out place v at)) ∙ is in
+      let found = ordered_at (before_by entry_order) (map (entry_of owners out) passing) n entry listed in
+      let f = mapped_at (entry_of owners out) passing found.0 entry found.1 in
+      let edge = item_there (λ (f : ℕ × Edge). near_end out f.1 == v) g.edges g.edges 0 found.0 f.0 (λ i. let none : 0 + i ≡ i = omega arith in rw none refl) f.1 in
+      let ends = eqb-true (near_end out f.0.1) v (passes_there (λ (f : ℕ × Edge). near_end out f.1 == v) (numbered 0 g.edges) found.0 f.0 f.1) in
+      let number : f.0.0 ≡ entry.edge = ap (λ (e : Entry). e.edge) f.2 in
+      record { edge = f.0.1; is = rw number at edge; end = ends; told = sym f.2 ∙ ap (λ k. entry_of owners out (k, f.0.1)) number }
+
 pub parts_are_the_graph : PartsAreTheGraph
 parts_are_the_graph g owner machines machine = record {
   vertex_once = λ v less.
@@ -177,4 +225,5 @@ parts_are_the_graph g owner machines machine = record {
       rw owned at (vertex_once (owners_in owner (length g.vertices) machines) machines g machine v less);
   vertex_there = vertex_there (owners_in owner (length g.vertices) machines) machines g machine;
   edge_once = edge_once (owners_in owner (length g.vertices) machines) machines g machine;
+  entry_right = entry_right (owners_in owner (length g.vertices) machines) machines g machine;
 }
