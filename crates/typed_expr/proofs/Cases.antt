@@ -1,5 +1,5 @@
 -- What the definitions by cases say of each kind of expression.
-use Rattle.std.proofs.Common.{◌≡◌, ℕ, ℤ, Bool, List, [], ◌∷◌, ◌++◌, Option, Some, None}
+use Rattle.std.proofs.Common.{◌≡◌, ℕ, ℤ, Bool, List, [], ◌++◌, Option, Some, None}
 use Rattle.std.specs.List.{cons_option}
 use Rattle.adfs_base.specs.declared.value.Value.TheVariants as value
 use Rattle.pgql_tree.specs.declared.ast.Op.{Op}

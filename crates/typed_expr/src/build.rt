@@ -5,6 +5,7 @@ ghost use Rattle.typed_expr.specs.Typed as spec;
 
 use crate::capture_set::Captures;
 use crate::captures::add_captures;
+use crate::environment::Environment;
 use crate::expr::Expr;
 use crate::items::{Columns, add_names, item_of};
 use crate::meaning::{Scene, add_conjuncts, meant};
@@ -116,7 +117,7 @@ fn add_condition(
     scene: Scene<'_>,
     parts: &mut Items<Expr>,
 ) -> Result<(), NoMemory>
-    ensures { OnOk result (parts.new ≡ parts.old ++ spec.conjuncts_of (meaning.meant scene.entry.schema.now scene.entry.variables.now scene.entry.captures.now scene.entry.texts.now) condition.now) }
+    ensures { OnOk result (parts.new ≡ parts.old ++ spec.conjuncts_of (meaning.meant scene.entry.environment.schema.now scene.entry.environment.variables.now scene.entry.captures.now scene.entry.texts.now) condition.now) }
 {
     if let Some(condition) = condition {
         let condition = meant(condition, scene)?;
@@ -130,7 +131,7 @@ fn add_column(
     scene: Scene<'_>,
     select: &mut Items<(Expr, Name)>,
 ) -> Result<(), NoMemory>
-    ensures { OnOk result (select.new ≡ select.old ++ (meaning.meant scene.entry.schema.now scene.entry.variables.now scene.entry.captures.now scene.entry.texts.now item.now.expr, spec.column_of item.now) ∷ []) }
+    ensures { OnOk result (select.new ≡ select.old ++ (meaning.meant scene.entry.environment.schema.now scene.entry.environment.variables.now scene.entry.captures.now scene.entry.texts.now item.now.expr, spec.column_of item.now) ∷ []) }
 {
     let name = column_of(scene.alloc, item)?;
     let expr = meant(&item.expr, scene)?;
@@ -156,7 +157,7 @@ fn add_first(
     scene: Scene<'_>,
     select: &mut Items<(Expr, Name)>,
 ) -> Result<(), NoMemory>
-    ensures { let means = meaning.meant scene.entry.schema.now scene.entry.variables.now scene.entry.captures.now scene.entry.texts.now in
+    ensures { let means = meaning.meant scene.entry.environment.schema.now scene.entry.environment.variables.now scene.entry.captures.now scene.entry.texts.now in
         OnOk result (select.new ++ spec.select_of means (drop 1 items.now) ≡ select.old ++ spec.select_of means items.now) }
 {
     match items {
@@ -173,7 +174,7 @@ fn add_column_at(
     select: &mut Items<(Expr, Name)>,
 ) -> Result<(), NoMemory>
     requires { place < length items.old }
-    ensures column { let means = meaning.meant scene.entry.schema.now scene.entry.variables.now scene.entry.captures.now scene.entry.texts.now in
+    ensures column { let means = meaning.meant scene.entry.environment.schema.now scene.entry.environment.variables.now scene.entry.captures.now scene.entry.texts.now in
         OnOk result (select.new ++ spec.select_of means (drop (place + 1) items.old) ≡ select.old ++ spec.select_of means (drop place items.old)) }
     ensures rest { drop (place + 1) items.new ≡ drop (place + 1) items.old }
     ensures as_many { length items.new ≡ length items.old }
@@ -190,7 +191,7 @@ fn add_columns(
     scene: Scene<'_>,
     select: &mut Items<(Expr, Name)>,
 ) -> Result<(), NoMemory>
-    ensures { OnOk result (select.new ≡ select.old ++ spec.select_of (meaning.meant scene.entry.schema.now scene.entry.variables.now scene.entry.captures.now scene.entry.texts.now) items.old) }
+    ensures { OnOk result (select.new ≡ select.old ++ spec.select_of (meaning.meant scene.entry.environment.schema.now scene.entry.environment.variables.now scene.entry.captures.now scene.entry.texts.now) items.old) }
 {
     for place in 0..items.len() {
         add_column_at(items, place, scene, select)?;
@@ -201,7 +202,7 @@ fn add_columns(
 // The expression that an order key stands for.
 fn key_expr(columns: Columns<'_>, expr: &AstExpr, scene: Scene<'_>) -> Result<Expr, NoMemory>
     requires { columns.names.now ≡ map spec.as_declared columns.items.now }
-    ensures { IfOk result (λ found. found ≡ meaning.meant scene.entry.schema.now scene.entry.variables.now scene.entry.captures.now scene.entry.texts.now (spec.key_expr columns.entry.items.now expr.now)) }
+    ensures { IfOk result (λ found. found ≡ meaning.meant scene.entry.environment.schema.now scene.entry.environment.variables.now scene.entry.captures.now scene.entry.texts.now (spec.key_expr columns.entry.items.now expr.now)) }
 {
     match item_of(columns, expr) {
         Some(item) => meant(&item.expr, scene),
@@ -216,7 +217,7 @@ fn add_key(
     keys: &mut Items<(Expr, bool)>,
 ) -> Result<(), NoMemory>
     requires { columns.names.now ≡ map spec.as_declared columns.items.now }
-    ensures { OnOk result (keys.new ≡ keys.old ++ (meaning.meant scene.entry.schema.now scene.entry.variables.now scene.entry.captures.now scene.entry.texts.now (spec.key_expr columns.entry.items.now key.now.expr), key.now.down) ∷ []) }
+    ensures { OnOk result (keys.new ≡ keys.old ++ (meaning.meant scene.entry.environment.schema.now scene.entry.environment.variables.now scene.entry.captures.now scene.entry.texts.now (spec.key_expr columns.entry.items.now key.now.expr), key.now.down) ∷ []) }
 {
     let expr = key_expr(columns, &key.expr, scene)?;
     keys.push((expr, key.down))?;
@@ -230,7 +231,7 @@ fn add_keys(
     found: &mut Items<(Expr, bool)>,
 ) -> Result<(), NoMemory>
     requires { columns.names.now ≡ map spec.as_declared columns.items.now }
-    ensures { OnOk result (found.new ≡ found.old ++ spec.keys_of (meaning.meant scene.entry.schema.now scene.entry.variables.now scene.entry.captures.now scene.entry.texts.now) columns.entry.items.now keys.now) }
+    ensures { OnOk result (found.new ≡ found.old ++ spec.keys_of (meaning.meant scene.entry.environment.schema.now scene.entry.environment.variables.now scene.entry.captures.now scene.entry.texts.now) columns.entry.items.now keys.now) }
 {
     for key in keys {
         add_key(columns, key, scene, found)?;
@@ -247,7 +248,7 @@ fn add_keys_by_names(
     found: &mut Items<(Expr, bool)>,
 ) -> Result<(), NoMemory>
     requires { names.old ≡ [] }
-    ensures { OnOk result (found.new ≡ found.old ++ spec.keys_of (meaning.meant scene.entry.schema.now scene.entry.variables.now scene.entry.captures.now scene.entry.texts.now) items.now keys.now) }
+    ensures { OnOk result (found.new ≡ found.old ++ spec.keys_of (meaning.meant scene.entry.environment.schema.now scene.entry.environment.variables.now scene.entry.captures.now scene.entry.texts.now) items.now keys.now) }
 {
     add_names(scene.alloc, items, names)?;
     let columns = Columns { items, names };
@@ -260,7 +261,7 @@ fn add_order(
     scene: Scene<'_>,
     found: &mut Items<(Expr, bool)>,
 ) -> Result<(), NoMemory>
-    ensures { OnOk result (found.new ≡ found.old ++ spec.keys_of (meaning.meant scene.entry.schema.now scene.entry.variables.now scene.entry.captures.now scene.entry.texts.now) items.now keys.now) }
+    ensures { OnOk result (found.new ≡ found.old ++ spec.keys_of (meaning.meant scene.entry.environment.schema.now scene.entry.environment.variables.now scene.entry.captures.now scene.entry.texts.now) items.now keys.now) }
 {
     let mut names = Declarations::new(scene.alloc);
     add_keys_by_names(items, keys, scene, &mut names, found)
@@ -309,7 +310,7 @@ fn add_expressions(
 ) -> Result<(), NoMemory>
     requires select { select.old ≡ [] }
     requires keys { keys.old ≡ [] }
-    ensures { let means = meaning.meant scene.entry.schema.now scene.entry.variables.now scene.entry.captures.now scene.entry.texts.now in
+    ensures { let means = meaning.meant scene.entry.environment.schema.now scene.entry.environment.variables.now scene.entry.captures.now scene.entry.texts.now in
         OnOk result ((conjuncts.new ≡ conjuncts.old ++ spec.conjuncts_of means ast.old.condition)
         × (select.new ≡ spec.select_of means ast.old.items)
         × (keys.new ≡ spec.keys_of means ast.old.items ast.old.keys)) }
@@ -335,11 +336,14 @@ fn fill(
     requires query { query.old ≡ record { variables = []; edges = []; captures = []; conjuncts = []; select = []; keys = []; distinct = ast.old.distinct; limit = ast.old.limit } }
     ensures { OnOk result (query.new ≡ spec.query_of schema.now ast.old scope.now texts.now) }
 {
-    add_captures(ast, &scope.variables, schema, captures)?;
-    let scene = Scene {
-        alloc,
+    let environment = Environment {
         variables: &scope.variables,
         schema,
+    };
+    add_captures(ast, environment, captures)?;
+    let scene = Scene {
+        alloc,
+        environment,
         captures,
         texts,
     };

@@ -4,50 +4,46 @@ ghost use Rattle.typed_expr.specs.Typed as spec;
 ghost use Rattle.typed_expr.specs.Uses as uses;
 
 use crate::capture_set::Captures;
+use crate::environment::Environment;
 use crate::uses::add_uses;
 use adfs_base::NoMemory;
-use graph_tables::Schema;
-use pattern_scope::declarations::Declarations;
 use pgql_tree::{Ast, AstExpr, Item, Key};
 
 fn add_item_uses(
     items: &[Item],
-    variables: &Declarations,
-    schema: &Schema,
+    environment: Environment<'_>,
     found: &mut Captures,
 ) -> Result<(), NoMemory>
-    ensures { OnOk result (found.new ≡ fold uses.with_use found.old (flat_map (λ item. uses.uses schema.now variables.now item.expr) items.now)) }
+    ensures { OnOk result (found.new ≡ fold uses.with_use found.old (flat_map (λ item. uses.uses environment.entry.schema.now environment.entry.variables.now item.expr) items.now)) }
 {
     for item in items {
-        add_uses(&item.expr, variables, schema, found)?;
+        add_uses(&item.expr, environment, found)?;
     }
     Ok(())
 }
 
 fn add_key_uses(
     keys: &[Key],
-    variables: &Declarations,
-    schema: &Schema,
+    environment: Environment<'_>,
     found: &mut Captures,
 ) -> Result<(), NoMemory>
-    ensures { OnOk result (found.new ≡ fold uses.with_use found.old (flat_map (λ key. uses.uses schema.now variables.now key.expr) keys.now)) }
+    ensures { OnOk result (found.new ≡ fold uses.with_use found.old (flat_map (λ key. uses.uses environment.entry.schema.now environment.entry.variables.now key.expr) keys.now)) }
 {
     for key in keys {
-        add_uses(&key.expr, variables, schema, found)?;
+        add_uses(&key.expr, environment, found)?;
     }
     Ok(())
 }
 
 fn add_condition_uses(
     condition: &Option<AstExpr>,
-    variables: &Declarations,
-    schema: &Schema,
+    environment: Environment<'_>,
     found: &mut Captures,
 ) -> Result<(), NoMemory>
-    ensures { OnOk result (found.new ≡ fold uses.with_use found.old (spec.of_condition (uses.uses schema.now variables.now) condition.now)) }
+    ensures { OnOk result (found.new ≡ fold uses.with_use found.old (spec.of_condition (uses.uses environment.entry.schema.now environment.entry.variables.now) condition.now)) }
 {
     match condition {
-        Some(condition) => add_uses(condition, variables, schema, found),
+        Some(condition) => add_uses(condition, environment, found),
         None => Ok(()),
     }
 }
@@ -55,13 +51,12 @@ fn add_condition_uses(
 /// Adds the uses of all expressions, each once.
 pub fn add_captures(
     ast: &Ast,
-    variables: &Declarations,
-    schema: &Schema,
+    environment: Environment<'_>,
     found: &mut Captures,
 ) -> Result<(), NoMemory>
-    ensures { OnOk result (found.new ≡ fold uses.with_use found.old (spec.of_all (uses.uses schema.now variables.now) ast.now)) }
+    ensures { OnOk result (found.new ≡ fold uses.with_use found.old (spec.of_all (uses.uses environment.entry.schema.now environment.entry.variables.now) ast.now)) }
 {
-    add_item_uses(ast.items.as_slice(), variables, schema, found)?;
-    add_condition_uses(&ast.condition, variables, schema, found)?;
-    add_key_uses(ast.keys.as_slice(), variables, schema, found)
+    add_item_uses(ast.items.as_slice(), environment, found)?;
+    add_condition_uses(&ast.condition, environment, found)?;
+    add_key_uses(ast.keys.as_slice(), environment, found)
 }

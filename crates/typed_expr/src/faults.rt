@@ -5,6 +5,7 @@ ghost use Rattle.pgql_tree.specs.declared.ast.Item.{Item};
 ghost use Rattle.typed_expr.specs.Kinds as kinds;
 ghost use Rattle.typed_expr.specs.Typed as spec;
 
+use crate::environment::Environment;
 use crate::items::{Columns, add_name, item_of};
 use crate::kinds::{check, first_of, one_part};
 use crate::selected::{Selection, add_all_written, is_selected};
@@ -23,8 +24,7 @@ use value_text::Texts;
 #[derive(Clone, Copy)]
 struct Setting<'a> {
     alloc: Global,
-    variables: &'a Declarations,
-    schema: &'a Schema,
+    environment: Environment<'a>,
     distinct: bool,
 }
 
@@ -42,14 +42,13 @@ fn add_fault(
 
 fn add_item_faults(
     items: &[Item],
-    variables: &Declarations,
-    schema: &Schema,
+    environment: Environment<'_>,
     faults: &mut Items<TypeFault>,
 ) -> Result<(), NoMemory>
-    ensures { OnOk result (faults.new ≡ faults.old ++ flat_map (λ item. spec.faults_in (kinds.checked schema.now variables.now item.expr).kind) items.now) }
+    ensures { OnOk result (faults.new ≡ faults.old ++ flat_map (λ item. spec.faults_in (kinds.checked environment.entry.schema.now environment.entry.variables.now item.expr).kind) items.now) }
 {
     for item in items {
-        add_fault(check(&item.expr, variables, schema).kind, faults)?;
+        add_fault(check(&item.expr, environment).kind, faults)?;
     }
     Ok(())
 }
@@ -100,17 +99,13 @@ fn add_double_names(
 
 fn add_condition_fault(
     condition: &Option<AstExpr>,
-    variables: &Declarations,
-    schema: &Schema,
+    environment: Environment<'_>,
     faults: &mut Items<TypeFault>,
 ) -> Result<(), NoMemory>
-    ensures { OnOk result (faults.new ≡ faults.old ++ spec.condition_faults schema.now variables.now condition.now) }
+    ensures { OnOk result (faults.new ≡ faults.old ++ spec.condition_faults environment.entry.schema.now environment.entry.variables.now condition.now) }
 {
     match condition {
-        Some(condition) => add_fault(
-            one_part(Kind::Bool, check(condition, variables, schema)),
-            faults,
-        ),
+        Some(condition) => add_fault(one_part(Kind::Bool, check(condition, environment)), faults),
         None => Ok(()),
     }
 }
@@ -145,15 +140,12 @@ fn add_key_faults(
     requires names { columns.names.now ≡ map spec.as_declared columns.items.now }
     requires same { selection.items.now ≡ columns.items.now }
     requires texts { OnTrue setting.distinct (selection.texts.now ≡ spec.written selection.items.now) }
-    ensures { OnOk result (faults.new ≡ faults.old ++ spec.key_faults setting.entry.schema.now setting.entry.variables.now setting.entry.distinct columns.entry.items.now key.now) }
+    ensures { OnOk result (faults.new ≡ faults.old ++ spec.key_faults setting.entry.environment.schema.now setting.entry.environment.variables.now setting.entry.distinct columns.entry.items.now key.now) }
 {
     match item_of(columns, &key.expr) {
         Some(_) => Ok(()),
         None => {
-            add_fault(
-                check(&key.expr, setting.variables, setting.schema).kind,
-                faults,
-            )?;
+            add_fault(check(&key.expr, setting.environment).kind, faults)?;
             add_unselected(setting.alloc, selection, setting.distinct, key, faults)
         }
     }
@@ -169,7 +161,7 @@ fn add_all_key_faults(
     requires names { columns.names.now ≡ map spec.as_declared columns.items.now }
     requires same { selection.items.now ≡ columns.items.now }
     requires texts { OnTrue setting.distinct (selection.texts.now ≡ spec.written selection.items.now) }
-    ensures { OnOk result (faults.new ≡ faults.old ++ flat_map (spec.key_faults setting.entry.schema.now setting.entry.variables.now setting.entry.distinct columns.entry.items.now) keys.now) }
+    ensures { OnOk result (faults.new ≡ faults.old ++ flat_map (spec.key_faults setting.entry.environment.schema.now setting.entry.environment.variables.now setting.entry.distinct columns.entry.items.now) keys.now) }
 {
     for key in keys {
         add_key_faults(setting, columns, selection, key, faults)?;
@@ -206,7 +198,7 @@ fn add_order_faults(
 ) -> Result<(), NoMemory>
     requires names { columns.names.now ≡ map spec.as_declared columns.items.now }
     requires texts { texts.old ≡ [] }
-    ensures { OnOk result (faults.new ≡ faults.old ++ flat_map (spec.key_faults setting.entry.schema.now setting.entry.variables.now setting.entry.distinct columns.entry.items.now) keys.now) }
+    ensures { OnOk result (faults.new ≡ faults.old ++ flat_map (spec.key_faults setting.entry.environment.schema.now setting.entry.environment.variables.now setting.entry.distinct columns.entry.items.now) keys.now) }
 {
     let items = columns.items;
     add_written_if(setting.alloc, setting.distinct, items, texts, first)?;
@@ -230,12 +222,12 @@ fn add_faults_and_index(
     requires names { names.old ≡ [] }
     requires texts { texts.old ≡ [] }
     requires distinct { setting.distinct ≡ ast.now.distinct }
-    ensures { OnOk result (faults.new ≡ faults.old ++ spec.expression_faults setting.entry.schema.now setting.entry.variables.now ast.now) }
+    ensures { OnOk result (faults.new ≡ faults.old ++ spec.expression_faults setting.entry.environment.schema.now setting.entry.environment.variables.now ast.now) }
 {
     let items = ast.items.as_slice();
-    add_item_faults(items, setting.variables, setting.schema, faults)?;
+    add_item_faults(items, setting.environment, faults)?;
     add_double_names(setting.alloc, items, names, faults)?;
-    add_condition_fault(&ast.condition, setting.variables, setting.schema, faults)?;
+    add_condition_fault(&ast.condition, setting.environment, faults)?;
     let columns = Columns { items, names };
     add_order_faults(setting, columns, ast.keys.as_slice(), texts, first, faults)
 }
@@ -244,16 +236,14 @@ fn add_faults_and_index(
 fn add_expression_faults(
     alloc: Global,
     ast: &Ast,
-    variables: &Declarations,
-    schema: &Schema,
+    environment: Environment<'_>,
     faults: &mut Items<TypeFault>,
 ) -> Result<(), NoMemory>
-    ensures { OnOk result (faults.new ≡ faults.old ++ spec.expression_faults schema.now variables.now ast.now) }
+    ensures { OnOk result (faults.new ≡ faults.old ++ spec.expression_faults environment.entry.schema.now environment.entry.variables.now ast.now) }
 {
     let setting = Setting {
         alloc,
-        variables,
-        schema,
+        environment,
         distinct: ast.distinct,
     };
     let mut names = Declarations::new(alloc);
@@ -270,10 +260,13 @@ fn faults_of(
 ) -> Result<Items<TypeFault>, NoMemory>
     ensures { IfOk result (λ faults. faults ≡ spec.faults_of schema.now ast.now scope.now) }
 {
-    let variables = &scope.variables;
+    let environment = Environment {
+        variables: &scope.variables,
+        schema,
+    };
     let mut faults = Items::from_slice(alloc, scope.faults.as_slice())?;
     add_disconnected(alloc, scope, &mut faults)?;
-    add_expression_faults(alloc, ast, variables, schema, &mut faults)?;
+    add_expression_faults(alloc, ast, environment, &mut faults)?;
     Ok(faults)
 }
 

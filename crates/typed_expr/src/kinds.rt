@@ -6,6 +6,7 @@ ghost use Rattle.typed_expr.specs.Kinds as spec;
 ghost use Rattle.pattern_scope.specs.Names.{variable_of};
 ghost use Rattle.value_text.specs.Dates.{date_cell};
 
+use crate::environment::Environment;
 use adfs_base::{Kind, Name};
 use graph_tables::Schema;
 use pattern_scope::declarations::Declarations;
@@ -219,13 +220,12 @@ fn property_kind(
     variable: &Boxed<Name>,
     property: &Boxed<Name>,
     at: u32,
-    variables: &Declarations,
-    schema: &Schema,
+    environment: Environment<'_>,
 ) -> Result<Kind, TypeFault>
-    ensures { result ≡ spec.kind_of_use schema.now property.now at (variable_of variables.now variable.now) }
+    ensures { result ≡ spec.kind_of_use environment.entry.schema.now property.now at (variable_of environment.entry.variables.now variable.now) }
 {
-    match variables.variable_of(variable.get()) {
-        Some((_, edge)) => match property_in(schema, edge, property.get()) {
+    match environment.variables.variable_of(variable.get()) {
+        Some((_, edge)) => match property_in(environment.schema, edge, property.get()) {
             Some((_, kind)) => Ok(kind),
             None => Err(TypeFault::UnknownProperty(at)),
         },
@@ -241,8 +241,8 @@ fn found(at: u32, kind: Result<Kind, TypeFault>) -> Checked
 }
 
 /// An expression's place, and its kind or the first fault in it.
-pub fn check(expr: &AstExpr, variables: &Declarations, schema: &Schema) -> Checked
-    ensures { result ≡ spec.checked schema.now variables.now expr.now }
+pub fn check(expr: &AstExpr, environment: Environment<'_>) -> Checked
+    ensures { result ≡ spec.checked environment.entry.schema.now environment.entry.variables.now expr.now }
 {
     match expr {
         AstExpr::Int { at, .. } => found(*at, Ok(Kind::Int)),
@@ -251,34 +251,34 @@ pub fn check(expr: &AstExpr, variables: &Declarations, schema: &Schema) -> Check
         AstExpr::Date { content, at } => found(*at, date_kind(content, *at)),
         AstExpr::Name { name, at } => {
             let alone = Err(TypeFault::VariableKind(*at));
-            found(*at, used_as(alone, name, *at, variables))
+            found(*at, used_as(alone, name, *at, environment.variables))
         }
         AstExpr::Property {
             variable,
             property,
             at,
         } => {
-            let kind = property_kind(variable, property, *at, variables, schema);
+            let kind = property_kind(variable, property, *at, environment);
             found(*at, kind)
         }
         AstExpr::Id { variable, at } => {
-            let kind = called_as(Ok(Kind::Int), variable, variables);
+            let kind = called_as(Ok(Kind::Int), variable, environment.variables);
             found(*at, kind)
         }
         AstExpr::Label { variable, at } => {
-            let kind = called_as(Ok(Kind::Text), variable, variables);
+            let kind = called_as(Ok(Kind::Text), variable, environment.variables);
             found(*at, kind)
         }
         AstExpr::Not { inside, at } => {
-            let part = check(inside.get(), variables, schema);
+            let part = check(inside.get(), environment);
             found(*at, one_part(Kind::Bool, part))
         }
         AstExpr::Neg { inside, at } => {
-            let part = check(inside.get(), variables, schema);
+            let part = check(inside.get(), environment);
             found(*at, one_part(Kind::Int, part))
         }
         AstExpr::IsNull { inside, at, .. } => {
-            let part = check(inside.get(), variables, schema);
+            let part = check(inside.get(), environment);
             found(*at, tested(part.kind))
         }
         AstExpr::Binary {
@@ -287,8 +287,8 @@ pub fn check(expr: &AstExpr, variables: &Declarations, schema: &Schema) -> Check
             right,
             at,
         } => {
-            let a = check(left.get(), variables, schema);
-            let b = check(right.get(), variables, schema);
+            let a = check(left.get(), environment);
+            let b = check(right.get(), environment);
             found(*at, two_parts(*op, a, b))
         }
     }

@@ -14,6 +14,7 @@
 mod build;
 mod capture_set;
 mod captures;
+mod environment;
 pub mod expr;
 pub mod fault;
 mod faults;

@@ -9,12 +9,11 @@ ghost use Rattle.typed_query.specs.declared.expr.Expr.{Expr};
 ghost use Rattle.typed_query.specs.declared.expr.Expr.TheVariants as e;
 
 use crate::capture_set::Captures;
+use crate::environment::Environment;
 use crate::expr::Expr;
 use crate::query::{Capture, What};
 use crate::uses::{property_use, use_of};
 use adfs_base::{Name, NoMemory, Value};
-use graph_tables::Schema;
-use pattern_scope::declarations::Declarations;
 use pattern_scope::scope::short;
 use pgql_tree::{AstExpr, Content, Op, Placed};
 use sqlite_items::{Boxed, Items};
@@ -25,8 +24,7 @@ use value_text::{Texts, read_date};
 #[derive(Clone, Copy)]
 pub struct Scene<'a> {
     pub alloc: Global,
-    pub variables: &'a Declarations,
-    pub schema: &'a Schema,
+    pub environment: Environment<'a>,
     pub captures: &'a Captures,
     pub texts: &'a Texts,
 }
@@ -66,9 +64,9 @@ fn text_value(content: &Content, texts: &Texts) -> Value
 
 // What the key or the label of a variable means.
 fn meant_use(what: What, variable: &Boxed<Placed>, scene: Scene<'_>) -> Result<Expr, NoMemory>
-    ensures { IfOk result (λ found. found ≡ spec.captured scene.entry.captures.now (uses.use_of what (variable_of scene.entry.variables.now variable.now.name))) }
+    ensures { IfOk result (λ found. found ≡ spec.captured scene.entry.captures.now (uses.use_of what (variable_of scene.entry.environment.variables.now variable.now.name))) }
 {
-    let used = use_of(what, variable, scene.variables)?;
+    let used = use_of(what, variable, scene.environment.variables)?;
     captured(scene.captures, used)
 }
 
@@ -78,9 +76,9 @@ fn meant_property(
     property: &Boxed<Name>,
     scene: Scene<'_>,
 ) -> Result<Expr, NoMemory>
-    ensures { IfOk result (λ found. found ≡ spec.captured scene.entry.captures.now (uses.property_use scene.entry.schema.now property.now (variable_of scene.entry.variables.now variable.now))) }
+    ensures { IfOk result (λ found. found ≡ spec.captured scene.entry.captures.now (uses.property_use scene.entry.environment.schema.now property.now (variable_of scene.entry.environment.variables.now variable.now))) }
 {
-    let used = property_use(variable, property, scene.variables, scene.schema)?;
+    let used = property_use(variable, property, scene.environment)?;
     captured(scene.captures, used)
 }
 
@@ -126,7 +124,7 @@ fn with_right(
 
 /// What an expression means.
 pub fn meant(expr: &AstExpr, scene: Scene<'_>) -> Result<Expr, NoMemory>
-    ensures { IfOk result (λ found. found ≡ spec.meant scene.entry.schema.now scene.entry.variables.now scene.entry.captures.now scene.entry.texts.now expr.now) }
+    ensures { IfOk result (λ found. found ≡ spec.meant scene.entry.environment.schema.now scene.entry.environment.variables.now scene.entry.captures.now scene.entry.texts.now expr.now) }
 {
     match expr {
         AstExpr::Int { number, .. } => Ok(Expr::Constant(int_value(number))),

@@ -5,10 +5,10 @@ ghost use Rattle.pattern_scope.specs.Names as names;
 ghost use Rattle.typed_expr.specs.Uses as spec;
 
 use crate::capture_set::Captures;
+use crate::environment::Environment;
 use crate::kinds::property_in;
 use crate::query::{Capture, What};
 use adfs_base::{Name, NoMemory};
-use graph_tables::Schema;
 use pattern_scope::declarations::Declarations;
 use pattern_scope::scope::short;
 use pgql_tree::{AstExpr, Placed};
@@ -35,14 +35,13 @@ pub fn use_of(
 pub fn property_use(
     variable: &Boxed<Name>,
     property: &Boxed<Name>,
-    variables: &Declarations,
-    schema: &Schema,
+    environment: Environment<'_>,
 ) -> Result<Option<Capture>, NoMemory>
-    ensures { IfOk result (λ used. used ≡ spec.property_use schema.now property.now (names.variable_of variables.now variable.now)) }
+    ensures { IfOk result (λ used. used ≡ spec.property_use environment.entry.schema.now property.now (names.variable_of environment.entry.variables.now variable.now)) }
 {
-    match variables.variable_of(variable.get()) {
+    match environment.variables.variable_of(variable.get()) {
         None => Ok(None),
-        Some((number, edge)) => match property_in(schema, edge, property.get()) {
+        Some((number, edge)) => match property_in(environment.schema, edge, property.get()) {
             None => Ok(None),
             Some((place, kind)) => {
                 let variable = short(number)?;
@@ -68,11 +67,10 @@ fn add_use(found: &mut Captures, used: Option<Capture>) -> Result<(), NoMemory>
 /// Adds the uses of variables in an expression, each once.
 pub fn add_uses(
     expr: &AstExpr,
-    variables: &Declarations,
-    schema: &Schema,
+    environment: Environment<'_>,
     found: &mut Captures,
 ) -> Result<(), NoMemory>
-    ensures { OnOk result (found.new ≡ fold spec.with_use found.old (spec.uses schema.now variables.now expr.now)) }
+    ensures { OnOk result (found.new ≡ fold spec.with_use found.old (spec.uses environment.entry.schema.now environment.entry.variables.now expr.now)) }
 {
     match expr {
         AstExpr::Property {
@@ -80,23 +78,23 @@ pub fn add_uses(
             property,
             ..
         } => {
-            let used = property_use(variable, property, variables, schema)?;
+            let used = property_use(variable, property, environment)?;
             add_use(found, used)
         }
         AstExpr::Id { variable, .. } => {
-            let used = use_of(What::Id, variable, variables)?;
+            let used = use_of(What::Id, variable, environment.variables)?;
             add_use(found, used)
         }
         AstExpr::Label { variable, .. } => {
-            let used = use_of(What::Label, variable, variables)?;
+            let used = use_of(What::Label, variable, environment.variables)?;
             add_use(found, used)
         }
-        AstExpr::Not { inside, .. } => add_uses(inside.get(), variables, schema, found),
-        AstExpr::Neg { inside, .. } => add_uses(inside.get(), variables, schema, found),
-        AstExpr::IsNull { inside, .. } => add_uses(inside.get(), variables, schema, found),
+        AstExpr::Not { inside, .. } => add_uses(inside.get(), environment, found),
+        AstExpr::Neg { inside, .. } => add_uses(inside.get(), environment, found),
+        AstExpr::IsNull { inside, .. } => add_uses(inside.get(), environment, found),
         AstExpr::Binary { left, right, .. } => {
-            add_uses(left.get(), variables, schema, found)?;
-            add_uses(right.get(), variables, schema, found)
+            add_uses(left.get(), environment, found)?;
+            add_uses(right.get(), environment, found)
         }
         AstExpr::Int { .. } => Ok(()),
         AstExpr::Text { .. } => Ok(()),

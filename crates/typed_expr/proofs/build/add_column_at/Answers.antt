@@ -6,7 +6,7 @@ use Rattle.typed_expr.proofs.build.add_column_at.Goals as goal
 
 pub returns-clause-column : goal.returns-clause-column
 returns-clause-column c =
-    let means = meant c.args.scene.schema.now c.args.scene.variables.now c.args.scene.captures.now c.args.scene.texts.now in
+    let means = meant c.args.scene.environment.schema.now c.args.scene.environment.variables.now c.args.scene.captures.now c.args.scene.texts.now in
     let new = c.add_first.new.select in
     let old = c.args.select.now in
     let told =
