@@ -227,6 +227,7 @@ ends_quiet (NotBuilt what) replies old new ends = absurd ends
 
 pub ends_place : (Reaches : ℕ → Type 0) (status : Status) (replies : Replies) (old new : Told) → EndsPuts status replies old new → FailsAt Reaches status
 ends_place Reaches (ReadFault file) replies old new ends = absurd ends
+ends_place Reaches (Missing file) replies old new ends = absurd ends
 ends_place Reaches status replies old new ends = tt
 
 pub ends_words : (status : Status) (replies : Replies) (old new : Told) (words : Result Options Status) → IsOk words → EndsPuts status replies old new → WordsGive status words

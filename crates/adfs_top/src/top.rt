@@ -36,7 +36,7 @@ pub fn adfs_run_serial<S: Store, O: Sink>(
     // Faults come only where they were met in this call.
     ensures store { StoreCause result (S.files store.old) (S.faults store.old) (S.faults store.new) (S.misses store.old) (S.misses store.new) }
     ensures write { result ≡ Status.WriteFault → Rose (O.faults out.old) (O.faults out.new) }
-    // A read fault names a file that the words come to. Where the files are told, all that is loaded before it loads well.
+    // A file that can't be read, or is missing, is one that the words come to. Where the files are told, all that is loaded before it loads well.
     ensures place { FailsAt (WordsReach (accepted (map string_bytes words.now)) (S.files store.old)) result }
     // The store's files stay.
     ensures kept { S.files store.new ≡ S.files store.old }

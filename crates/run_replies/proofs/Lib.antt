@@ -1,5 +1,6 @@
 pub mod FileFacts
 pub mod JobFacts
+pub mod Lacking
 pub mod Limits
 pub mod Places
 pub mod Replays

@@ -167,11 +167,13 @@ bytes_files status is = tt
 -- a file of these is one of those
 named_among : (These Those : ℕ → Type 0) (status : Status) → ((file : ℕ) → These file → Those file) → FailsAt These status → FailsAt Those status
 named_among These Those (ReadFault file) among at = among file at
+named_among These Those (Missing file) among at = among file at
 named_among These Those status among at = tt
 
 -- what bytes cause names none
 bytes_at : (Reaches : ℕ → Type 0) (status : Status) → IsOfBytes status → FailsAt Reaches status
 bytes_at Reaches (ReadFault file) is = absurd is
+bytes_at Reaches (Missing file) is = absurd is
 bytes_at Reaches status is = tt
 
 -- a step after one that gave this

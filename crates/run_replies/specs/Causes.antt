@@ -11,9 +11,10 @@ StoreCause (ReadFault file) files faults faults_now misses misses_now = Rose fau
 StoreCause (Missing file) files faults faults_now misses misses_now = MatchOption files (Rose misses misses_now) (λ _. Unit {0})
 StoreCause status files faults faults_now misses misses_now = Unit {0}
 
--- A read fault names a file that is reached.
+-- A read fault, or a missing file, is of a file that is reached.
 abbrev pub FailsAt : (ℕ → Type 0) → Status → Type 0
 FailsAt Reaches (ReadFault file) = Reaches file
+FailsAt Reaches (Missing file) = Reaches file
 FailsAt Reaches status = Unit {0}
 
 -- How far the words went: a status that is theirs alone comes for no other cause, and any other only where they were accepted.

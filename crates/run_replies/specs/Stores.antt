@@ -10,7 +10,7 @@ abbrev pub Tells : Type 0
 Tells = Option Files × ℕ × ℕ
 
 -- The files stay, and neither count falls. The status is one of the work on files; the store has caused it where a store causes
--- such a status; and a read fault names a file that the step reaches, by the files that it began with.
+-- such a status; and a file that can't be read, or is missing, is one that the step reaches, by the files that it began with.
 pub record ReadsFiles {X : Type 0} (Reaches : Option Files → ℕ → Type 0) (old new : Tells) (result : Result X Status) : Type 0 where
   pub kept : new.0 ≡ old.0
   pub faults : old.1 ≤ new.1

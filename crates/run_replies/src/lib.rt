@@ -8,8 +8,9 @@
 //! (specs/Causes.antt), out of memory alone at any time.
 //!
 //! A step that reads files keeps to `ReadsFiles` (specs/Stores.antt): the store's files stay, what it ends with is caused by
-//! the store where a store causes it, and a read fault names a file that the step reaches. Each step says which files these
-//! are, in the order of its loads (specs/Reaching.antt), from one file's number up to `WordsReach`, all that words come to.
+//! the store where a store causes it, and a file that can't be read, or is missing, is one that the step reaches. Each step
+//! says which files these are, in the order of its loads (specs/Reaching.antt), from one file's number up to `WordsReach`,
+//! all that words come to.
 #![tactic(auto)]
 
 mod answer;

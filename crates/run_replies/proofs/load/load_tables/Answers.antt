@@ -8,4 +8,5 @@ returns-in-Ok-clause-reads g c = reads_ok (GraphReaches c.args.manifest.now) _ _
 
 pub returns-in-Err-clause-reads : goal.returns-in-Err-clause-reads
 returns-in-Err-clause-reads g c =
-    reads_fault c.args.manifest.now c.in-Err.fault c.status_of.result _ _ c.status_of.ensures c.in-Err.ensures.kept c.in-Err.ensures.cause c.in-Err.ensures.place c.in-Err.ensures.reached
+    reads_fault c.args.manifest.now c.in-Err.fault c.status_of.result _ _ c.status_of.ensures c.in-Err.ensures.kept c.in-Err.ensures.cause c.in-Err.ensures.place
+    c.in-Err.ensures.lacking c.in-Err.ensures.reached c.in-Err.ensures.gives
