@@ -44,6 +44,7 @@ fn is_tested(ground: &Ground<'_>, gains: &Gains, look: Option<Look>, context: &C
     ensures { result ≡ (told.all_told ground.now.texts.now ground.now.query.now (looks.words_seen ground.now.query.now ground.now.part.now look context.now.words) gains.now.reads
         && answers.all_hold ground.now.texts.now ground.now.query.now (looks.words_seen ground.now.query.now ground.now.part.now look context.now.words) gains.now.conjuncts) }
 {
+    // What it promises keeps the places below within the context's words.
     let _word = first_word(context);
     all_told(ground, look, context, gains.reads.as_slice())
         && all_hold(ground, gains, look, context)

@@ -139,6 +139,7 @@ fn along(ground: &Ground<'_>, gains: &Gains, step: Step, entry: Link, context: &
     requires entry { option_map link_of_entry (entry_at step.out ground.now.part.now step.place step.number) ≡ Some entry }
     ensures { result ≡ answer_along ground.now.texts.now ground.now.query.now gains.now step.edge step.to context.now.words (entry_in step.out ground.now.part.now step.place step.number) }
 {
+    // What it promises keeps the places below within the context's words.
     let _word = first_word(context);
     if !ground.is_labelled(step.edge, entry.label) {
         return Next::Skip;

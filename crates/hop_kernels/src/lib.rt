@@ -4,8 +4,9 @@
 //! a context arrives at its vertex: the label is tested, then the parts of the condition that are whole now, and
 //! the captures are written. Then each entry of the list along which the hop goes is one place. The other end of
 //! an entry, its label and the parts of the condition that its edge makes whole are looked at before the child
-//! is made, and a child is copied once. It answers for any words: where one that it needs stands for nothing,
-//! there is no answer. No call takes memory.
+//! is made. It answers for any words: where one that it needs stands for nothing, there is no answer.
+//! `PlanTree::seek` passes over the entries of which nothing comes in one go, and says place by place what `next`
+//! would have said (`Passes` of `match_context`). No call takes memory.
 //!
 //! `PlanTree` is a plan over the parts of all machines, and a staged tree (`Expand`): exactly `tree_of` of the
 //! crate `plan_tree`, whose law says that the leaves are the matches.

@@ -27,12 +27,18 @@ pub(crate) struct Look {
 /// The most captures that a context has words for.
 pub(crate) const MOST_CAPTURES: usize = 39;
 
+/// The first day of the year 0000, counted from 1970-01-01.
+const FIRST_DAY: i32 = -719_528;
+
+/// The last day of the year 9999, counted from 1970-01-01.
+const LAST_DAY: i32 = 2_932_896;
+
 fn is_valid(texts: &Texts, value: Value) -> bool
     ensures { result ≡ told.is_valid texts.now value }
 {
     match value {
         Value::Text(number) => number < texts.len(),
-        Value::Date(day) => -719_528 <= day && day <= 2_932_896,
+        Value::Date(day) => FIRST_DAY <= day && day <= LAST_DAY,
         _ => true,
     }
 }
@@ -170,6 +176,7 @@ pub(crate) fn all_hold_by(
     requires sight { IsInSight ground.now.part.now look }
     ensures { result ≡ answers.all_hold ground.now.texts.now ground.now.query.now (looks.words_seen ground.now.query.now ground.now.part.now look context.now.words) gains.now.conjuncts }
 {
+    // What it promises keeps the places below within the context's words.
     let _word = first_word(context);
     put_values(ground, look, context, gains.reads.as_slice(), values);
     all_pass(ground, gains.conjuncts.as_slice(), values)

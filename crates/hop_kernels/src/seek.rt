@@ -206,17 +206,8 @@ fn ends(entries: &[Link], from: usize, end: u32) -> (usize, usize)
     ensures before { (i : ℕ) (d : Link) → from ≤ i → i < result.0 → (slice_index_or entries.now i d).other < end }
     ensures past { (i : ℕ) (d : Link) → result.1 ≤ i → i < length entries.now → end < (slice_index_or entries.now i d).other }
 {
-    let low = lower(entries, end);
-    let high = upper(entries, end);
-    if low < from {
-        if high < from {
-            return (from, from);
-        }
-        return (from, high);
-    }
-    if high < low {
-        return (low, low);
-    }
+    let low = lower(entries, end).max(from);
+    let high = upper(entries, end).max(low);
     (low, high)
 }
 
@@ -370,6 +361,7 @@ fn seek_neighbour(ground: &Ground<'_>, stage: &Stage, way: Way, frame: &mut Fram
     requires hop { stage.now.hop ≡ hop.Neighbour way.out way.edge way.to }
     ensures { IsSought (answers.items_of ground.now.texts.now ground.now.query.now ground.now.part.now stage.now frame.old.context.words) frame.old result.0 result.1 frame.new }
 {
+    // What it promises keeps the places below within the context's words.
     let _word = first_word(&frame.context);
     if !others_told(ground, &stage.passage, way.edge, &frame.context) {
         return (0, Found::End);
@@ -392,6 +384,7 @@ fn seek_bound(ground: &Ground<'_>, stage: &Stage, way: Way, frame: &mut Frame) -
     requires hop { stage.now.hop ≡ hop.Edge way.out way.edge way.to }
     ensures { IsSought (answers.items_of ground.now.texts.now ground.now.query.now ground.now.part.now stage.now frame.old.context.words) frame.old result.0 result.1 frame.new }
 {
+    // What it promises keeps the places below within the context's words.
     let _word = first_word(&frame.context);
     let end = frame.context.words[1 + way.to as usize];
     if end >= u64::from(ground.part.graph_vertices())

@@ -28,6 +28,7 @@ pub(crate) fn place_in(part: &Part, word: u64) -> Option<u32>
 }
 
 /// The row of an element.
+#[inline]
 pub(crate) fn row_of(part: &Part, spot: Spot) -> Row<'_>
     requires { IsSome (element_at part.now spot) }
     ensures { result.1 ≡ (element_in part.now spot).values }

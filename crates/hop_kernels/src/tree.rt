@@ -60,6 +60,7 @@ fn root_at(part: &Part, place: u64) -> Context
     requires there { place < length part.now.numbers }
     ensures { result ≡ over.root_of (slice_index part.now.numbers place) }
 {
+    // What it promises keeps the place within 32 bits.
     let _vertices = part.vertices();
     let (number, _, _) = part.vertex(place as u32);
     root_of(number)

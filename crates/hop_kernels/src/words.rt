@@ -24,6 +24,7 @@ pub(crate) fn kind_of(what: What) -> Kind
 }
 
 /// The word of what is captured of an element, whose row that is.
+#[inline]
 pub(crate) fn word_of(part: &Part, spot: Spot, row: &Row<'_>, capture: &Capture) -> Option<u64>
     requires element { IsSome (element_at part.now spot) }
     requires row { row.now.1 ≡ (element_in part.now spot).values }
